@@ -1,0 +1,33 @@
+-- A table of fixed length whose first entries are in use.
+use Prim.Native.Nat.{ℕ, zero, suc, _+_, _<_, _≤_}
+use mathlib.Core.Path.{_≡_, _∙_}
+use mathlib.Core.List.{List}
+use native.Mathlib.Omega.{arith}
+use native.Mathlib.Numerals.{add-one}
+use lib.ListN.{length, getD, set, replicate, length-set, length-replicate}
+use lib.Seq.{getD-set-same, getD-set-other}
+use Rattle.arith.specs.Bounded.{below-suc}
+
+module _ {A : Type 0} (k : ℕ) (f : ℕ → A) (blank : A) where
+  -- k entries: the first n are f 0, f 1, .., f (n - 1), and the others are blank
+  unfoldable pub table : ℕ → List A
+  table zero = replicate k blank
+  table (suc n) = set (table n) n (f n)
+
+  pub length-table : (n : ℕ) → length (table n) ≡ k
+  unfolding table
+  length-table zero = length-replicate k blank
+  length-table (suc n) = rw length-set (length-table n)
+
+  -- the step of a loop that fills the table
+  pub table-more : (n : ℕ) → table (n + 1) ≡ set (table n) n (f n)
+  unfolding table
+  table-more n = rw add-one
+
+  pub table-at : (n i : ℕ) (d : A) → i < n → n ≤ k → getD (table n) i d ≡ f i
+  unfolding table
+  table-at zero i d h l = absurd (omega arith)
+  table-at (suc n) i d h l =
+      below-suc i n h
+      (λ e. rw e (getD-set-same (table n) n (f n) d (rw (length-table n) l)))
+      (λ g. getD-set-other (table n) n i (f n) d (λ e. omega arith) ∙ table-at n i d g (omega arith))

@@ -1,0 +1,159 @@
+// What C and Rust see of a manager: structs in C's layout, with the papers' number in the place of each enum.
+ghost use mathlib.Core.Path.{_≡_};
+ghost use Rattle.arith.specs.Tables.{table};
+ghost use Rattle.interface.specs.Views.{jobView, areaView, noAreaView, areaViews, deviceView, noDeviceView, deviceViews, loadView};
+use manager::Manager;
+use memory::JobResult;
+use memory::LogicalAddress;
+use plan::records::Plan;
+use state::Area;
+use state::Device;
+use state::DeviceState;
+use state::Job;
+use state::Waits;
+
+#[repr(C)]
+pub struct JobView {
+    pub kind: u8,
+    pub status: u8,
+    pub result: JobResult,
+    pub retries_left: u8,
+    pub address: LogicalAddress,
+    pub length: u32,
+    pub processed: u32,
+}
+
+#[repr(C)]
+pub struct AreaView {
+    pub job: JobView,
+    pub waits: Waits,
+}
+
+// state: 0 nothing runs, 1 runs for the area, 2 locked for the area.
+#[repr(C)]
+pub struct DeviceView {
+    pub state: u8,
+    pub area: u8,
+    pub polls: u16,
+}
+
+#[repr(C)]
+pub struct LoadView {
+    pub number: u8,
+    pub plan: Plan,
+    pub areas: [AreaView; 8],
+    pub devices: [DeviceView; 4],
+}
+
+impl JobView {
+    fn of(job: Job) -> JobView
+        ensures { λ r. ⌜ r ≡ jobView job ⌝ }
+    {
+        let kind = job.kind;
+        let status = job.status;
+        let result = job.result;
+        let address = job.address;
+        JobView {
+            kind: kind.number(),
+            status: status.number(),
+            result,
+            retries_left: job.retries_left,
+            address,
+            length: job.length,
+            processed: job.processed,
+        }
+    }
+}
+
+impl AreaView {
+    fn none() -> AreaView
+        ensures { λ r. ⌜ r ≡ noAreaView ⌝ }
+    {
+        let area = Area::fresh();
+        AreaView::of(area)
+    }
+
+    fn of(area: Area) -> AreaView
+        ensures { λ r. ⌜ r ≡ areaView area ⌝ }
+    {
+        let job = area.job;
+        let waits = area.waits;
+        AreaView {
+            job: JobView::of(job),
+            waits,
+        }
+    }
+}
+
+impl DeviceView {
+    fn none() -> DeviceView
+        ensures { λ r. ⌜ r ≡ noDeviceView ⌝ }
+    {
+        DeviceView {
+            state: 0,
+            area: 0,
+            polls: 0,
+        }
+    }
+
+    fn of(device: Device) -> DeviceView
+        ensures { λ r. ⌜ r ≡ deviceView device ⌝ }
+    {
+        let state = device.state;
+        match state {
+            DeviceState::Free => DeviceView::none(),
+            DeviceState::Runs { area, polls } => DeviceView {
+                state: 1,
+                area,
+                polls,
+            },
+            DeviceState::LockedFor(area) => DeviceView {
+                state: 2,
+                area,
+                polls: 0,
+            },
+        }
+    }
+}
+
+fn area_views(areas: [Area; 8]) -> [AreaView; 8]
+    ensures { λ r. ⌜ r ≡ areaViews areas ⌝ }
+{
+    let mut views = [AreaView::none(); 8];
+    let mut i = 0;
+    while i < 8 {
+        views[i] = AreaView::of(areas[i]);
+        i += 1;
+    }
+    views
+}
+
+fn device_views(devices: [Device; 4]) -> [DeviceView; 4]
+    ensures { λ r. ⌜ r ≡ deviceViews devices ⌝ }
+{
+    let mut views = [DeviceView::none(); 4];
+    let mut i = 0;
+    while i < 4 {
+        views[i] = DeviceView::of(devices[i]);
+        i += 1;
+    }
+    views
+}
+
+#[no_mangle]
+pub extern "C" fn luvdrog_load(bytes: &[u8]) -> LoadView
+    ensures { λ r. ⌜ r ≡ loadView (now (bytes .entry)) ⌝ }
+{
+    let loaded = Manager::load(bytes);
+    let answer = loaded.answer;
+    let manager = loaded.manager;
+    let plan = manager.plan;
+    let areas = manager.areas;
+    let devices = manager.devices;
+    LoadView {
+        number: answer.number(),
+        plan,
+        areas: area_views(areas),
+        devices: device_views(devices),
+    }
+}

@@ -1,0 +1,117 @@
+// The types of the field: addresses, job types, statuses, results and the answers to calls.
+ghost use mathlib.Core.Path.{_≡_};
+ghost use Rattle.memory.specs.Numbers.{jobTypeNumber, statusNumber, refusalNumber, admissionNumber};
+
+// An address in an area's logical space (source document 000: MemAcc_AddressType).
+#[repr(C)]
+pub struct LogicalAddress(pub u32);
+
+// A physical address: byte p of the image (000: Mem_AddressType).
+#[repr(C)]
+pub struct MemAddress(pub u32);
+
+// 000: MemAcc_JobType. Number 5, the hardware specific services, is left out.
+pub enum JobType {
+    NoJob,
+    Write,
+    Read,
+    Compare,
+    Erase,
+    BlankCheck,
+    Lock,
+}
+
+impl JobType {
+    pub fn number(self) -> u8
+        ensures { λ r. ⌜ r ≡ jobTypeNumber self ⌝ }
+    {
+        match self {
+            JobType::NoJob => 0,
+            JobType::Write => 1,
+            JobType::Read => 2,
+            JobType::Compare => 3,
+            JobType::Erase => 4,
+            JobType::BlankCheck => 6,
+            JobType::Lock => 7,
+        }
+    }
+}
+
+// 000: MemAcc_JobStatusType. A job that was cancelled while its request ran is pending until that request ends.
+pub enum JobStatus {
+    Idle,
+    Pending,
+    Cancelling,
+}
+
+impl JobStatus {
+    pub fn number(self) -> u8
+        ensures { λ r. ⌜ r ≡ statusNumber self ⌝ }
+    {
+        match self {
+            JobStatus::Idle => 0,
+            JobStatus::Pending => 1,
+            JobStatus::Cancelling => 1,
+        }
+    }
+}
+
+// 000: MemAcc_JobResultType.
+#[repr(C)]
+pub struct JobResult(pub u8);
+
+impl JobResult {
+    pub const OK: JobResult = JobResult(0);
+
+    pub const FAILED: JobResult = JobResult(1);
+
+    pub const INCONSISTENT: JobResult = JobResult(2);
+
+    pub const CANCELED: JobResult = JobResult(3);
+}
+
+// Document 01, "Questions at the door": the question that was answered "no".
+pub enum Refusal {
+    Records,
+    Counts,
+    Devices,
+    Windows,
+    Sizes,
+    Placement,
+    AreaSpaces,
+    SharedBytes,
+}
+
+impl Refusal {
+    pub fn number(self) -> u8
+        ensures { λ r. ⌜ r ≡ refusalNumber self ⌝ }
+    {
+        match self {
+            Refusal::Records => 1,
+            Refusal::Counts => 2,
+            Refusal::Devices => 3,
+            Refusal::Windows => 4,
+            Refusal::Sizes => 5,
+            Refusal::Placement => 6,
+            Refusal::AreaSpaces => 7,
+            Refusal::SharedBytes => 8,
+        }
+    }
+}
+
+// The answer to a call.
+pub enum Admission {
+    Accepted,
+    Refused(Refusal),
+}
+
+impl Admission {
+    pub fn number(self) -> u8
+        ensures { λ r. ⌜ r ≡ admissionNumber self ⌝ }
+    {
+        match self {
+            Admission::Accepted => 0,
+            Admission::Refused(refusal) => refusal.number(),
+        }
+    }
+}

@@ -1,0 +1,77 @@
+use Rattle.plan.specs.SizeLaws.{sector-some}
+use Prim.Native.Nat.{_+_, _-_, _≤_}
+use mathlib.Core.Bool.{true}
+use mathlib.Core.Path.{_≡_, refl, sym, ap, _∙_}
+use native.Mathlib.Omega.{arith}
+use borrow.Author.Needs.{needs}
+use borrow.Author.Tests.{not-true, not-false}
+use Rattle.arith.specs.Bounded.{every, every-elim, every-fails, every-more}
+use Rattle.plan.specs.Questions.{subAreaOf, isPlaced, sizesFit}
+use Rattle.plan.proofs.questions.all_placed.Statement.{statement}
+use Rattle.plan.proofs.questions.all_placed.Tie as tie
+use Rattle.plan.proofs.questions.all_placed.Reads as reads
+use Rattle.plan.proofs.questions.all_placed.Lts as lts
+use Rattle.plan.proofs.records.SubAreaRecord.is_placed.Reads as is-placed-reads
+
+abbrev Inv-loop : tie.InvT-loop
+Inv-loop count devices device-count area-count sub-areas i₀ i = (i ≤ count) × (every (λ k. isPlaced devices device-count area-count (subAreaOf sub-areas k)) i ≡ true)
+
+abbrev μ-loop : tie.MeasureT-loop
+μ-loop count devices device-count area-count sub-areas i₀ i = count - i
+
+-- src/questions.rt:117:5
+loop-holds : tie.Need-loop-holds Inv-loop μ-loop
+unfolding every
+loop-holds c = (omega arith, refl)
+
+-- src/questions.rt:118:24
+mul-sub-area : tie.Need-mul-sub-area Inv-loop μ-loop
+mul-sub-area c = search needs
+
+-- src/questions.rt:118:24
+array-copy-out-sub-area : tie.Need-array-copy-out-sub-area Inv-loop μ-loop
+array-copy-out-sub-area c = search needs
+
+-- src/questions.rt:119:13
+is-placed-requires : tie.Need-is-placed-requires Inv-loop μ-loop
+is-placed-requires c κs =
+    let a = c .before .before .before .args in
+    let l = c .before .before .loop in
+    let fits = every-elim (λ k. sizesFit (subAreaOf (a .t1) k)) (a .count) (c .before .before .before .pre .2) (l .i) (omega arith) in
+    (omega arith, sector-some _ fits)
+
+-- src/questions.rt:120:13
+returns : tie.Need-returns Inv-loop μ-loop
+returns c = sym (every-fails _ _ _ (omega arith) (sym (c .before .is-placed .ensures) ∙ not-true (c .before .is-placed .result) (c .if1 .taken)))
+
+-- src/questions.rt:122:9
+add-i : tie.Need-add-i Inv-loop μ-loop
+add-i c = search needs
+
+-- src/questions.rt:117:5
+loop-less : tie.Need-loop-less Inv-loop μ-loop
+loop-less c = search needs
+
+-- src/questions.rt:117:5
+loop-again : tie.Need-loop-again Inv-loop μ-loop
+loop-again c = (omega arith, every-more _ _ (c .before .before .before .before .loop .inv .1) (sym (c .before .is-placed .ensures) ∙ not-false (c .before .is-placed .result) (c .if1 .left)))
+
+-- src/questions.rt:106:1
+returns-2 : tie.Need-returns-2 Inv-loop μ-loop
+returns-2 c = sym (ap (every _) (omega arith) ∙ c .before .loop .inv .1)
+
+pub all-placed-spec : {M : Type 1} → statement M
+all-placed-spec =
+    tie.close
+    (tie.spec
+    Inv-loop
+    μ-loop
+    loop-holds
+    mul-sub-area
+    array-copy-out-sub-area
+    is-placed-requires
+    returns
+    add-i
+    loop-less
+    loop-again
+    returns-2)

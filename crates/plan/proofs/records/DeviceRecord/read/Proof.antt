@@ -1,0 +1,49 @@
+use Rattle.plan.specs.Records.{deviceAt}
+use borrow.Author.Needs.{needs}
+use Rattle.plan.proofs.records.DeviceRecord.read.Statement.{statement}
+use Rattle.plan.proofs.records.DeviceRecord.read.Tie as tie
+use Rattle.plan.proofs.records.DeviceRecord.read.Reads as reads
+use Rattle.plan.proofs.records.DeviceRecord.read.Lts as lts
+use Rattle.plan.proofs.number.u16_at.Reads as u16-at-reads
+use Rattle.plan.proofs.number.u32_at.Reads as u32-at-reads
+
+-- src/records.rt:83:46
+add-u32-at : tie.Need-add-u32-at
+add-u32-at c = search needs
+
+-- src/records.rt:83:32
+u32-at-requires : tie.Need-u32-at-requires
+u32-at-requires c κs = search needs
+
+-- src/records.rt:84:36
+add-u32-at-2 : tie.Need-add-u32-at-2
+add-u32-at-2 c = search needs
+
+-- src/records.rt:84:13
+u32-at-requires-2 : tie.Need-u32-at-requires-2
+u32-at-requires-2 c κs = search needs
+
+-- src/records.rt:85:40
+add-u16-at : tie.Need-add-u16-at
+add-u16-at c = search needs
+
+-- src/records.rt:85:13
+u16-at-requires : tie.Need-u16-at-requires
+u16-at-requires c κs = search needs
+
+-- src/records.rt:79:5
+returns : tie.Need-returns
+unfolding deviceAt
+returns c = simp (← (c .u16-at .ensures), ← (c .before .u32-at2 .ensures), ← (c .before .before .u32-at .ensures))
+
+pub read-spec : {M : Type 1} → statement M
+read-spec =
+    tie.close
+    (tie.spec
+    add-u32-at
+    u32-at-requires
+    add-u32-at-2
+    u32-at-requires-2
+    add-u16-at
+    u16-at-requires
+    returns)

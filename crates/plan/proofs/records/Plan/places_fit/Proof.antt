@@ -1,0 +1,18 @@
+use borrow.Author.Needs.{needs}
+use Rattle.plan.proofs.records.Plan.places_fit.Statement.{statement}
+use Rattle.plan.proofs.records.Plan.places_fit.Tie as tie
+use Rattle.plan.proofs.records.Plan.places_fit.Reads as reads
+use Rattle.plan.proofs.records.Plan.places_fit.Lts as lts
+use Rattle.plan.proofs.questions.all_placed.Reads as all-placed-reads
+
+-- src/questions.rt:265:9
+all-placed-requires : tie.Need-all-placed-requires
+all-placed-requires c κs = search needs
+
+-- src/questions.rt:259:5
+returns : tie.Need-returns
+unfolding Rattle.plan.specs.Questions.allPlaced
+returns c = simp (← (c .all-placed .ensures))
+
+pub places-fit-spec : {M : Type 1} → statement M
+places-fit-spec = tie.close (tie.spec all-placed-requires returns)

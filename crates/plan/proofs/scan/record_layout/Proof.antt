@@ -1,0 +1,31 @@
+use Rattle.plan.specs.RecordLaws.{layout-is}
+use borrow.Author.Needs.{needs}
+use Rattle.plan.proofs.scan.record_layout.Statement.{statement}
+use Rattle.plan.proofs.scan.record_layout.Tie as tie
+use Rattle.plan.proofs.scan.record_layout.Reads as reads
+use Rattle.plan.proofs.scan.record_layout.Lts as lts
+use Rattle.plan.proofs.scan.run_from.Reads as run-from-reads
+
+-- src/scan.rt:62:9
+run-from-requires : tie.Need-run-from-requires
+run-from-requires c κs = search needs
+
+-- src/scan.rt:71:9
+run-from-requires-2 : tie.Need-run-from-requires-2
+run-from-requires-2 c κs = search needs
+
+-- src/scan.rt:80:9
+run-from-requires-3 : tie.Need-run-from-requires-3
+run-from-requires-3 c κs = search needs
+
+-- src/scan.rt:58:1
+returns : tie.Need-returns
+returns c =
+    let d = c .before .before .run-from .ensures in
+    let a = c .before .run-from2 .ensures in
+    let s = c .run-from3 .ensures in
+    (layout-is _ _ _ _ _ _ _ (d .0) (d .1) (a .0) (a .1) (s .0) (s .1), s .2)
+
+pub record-layout-spec : {M : Type 1} → statement M
+record-layout-spec =
+    tie.close (tie.spec run-from-requires run-from-requires-2 run-from-requires-3 returns)

@@ -1,0 +1,29 @@
+//! An independent model of the memory access manager of document 01.
+//!
+//! The model is written from document 01 and the list of readings alone, in the plainest form that
+//! can be held against their sentences. It shares no code with the proved library; with feature
+//! `proved` the tests run both on the same inputs and compare every field of the answers.
+//!
+//! - [`plan`]: the records of a plan, and loading (questions 1 to 8);
+//! - [`plans`]: making plans, valid and wounded ones, from records to bytes;
+//! - [`named`]: the table of plans whose number follows from the paper by hand;
+//! - [`random`]: the deterministic generator behind all random plans;
+//! - [`histogram`]: how often each number came up;
+//! - `proved`: the proved library, called through its C interface (feature `proved`).
+
+pub mod admission;
+pub mod calls;
+pub mod demands;
+pub mod histogram;
+pub mod jobs;
+pub mod manager;
+pub mod named;
+pub mod plan;
+pub mod plans;
+#[cfg(feature = "proved")]
+pub mod proved;
+pub mod random;
+pub mod segments;
+pub mod session;
+pub mod sessions;
+pub mod wait_book;

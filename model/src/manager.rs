@@ -1,0 +1,235 @@
+//! The memory access manager of document 01: jobs, locks, releases, cancels, rounds and queries over
+//! a loaded plan.
+//!
+//! Every call answers with the number of the first question answered "no", 0 if there is none; a
+//! refused call changes nothing. A manager only comes from an accepted load, so question 9 never
+//! refuses.
+
+mod queries;
+mod round;
+
+pub use queries::{JobInfo, MemoryInfo, RequestInfo};
+
+use crate::admission::{self, Standing};
+use crate::jobs::{Job, JobResult, JobType, Operation, Target};
+use crate::plan::{self, Plan};
+use crate::segments::{self, Piece};
+
+#[derive(Clone, Debug, PartialEq, Eq)]
+pub struct Manager {
+    plan: Plan,
+    areas: Vec<AreaState>,
+    devices: Vec<DeviceState>,
+}
+
+#[derive(Clone, Debug, PartialEq, Eq)]
+struct AreaState {
+    /// The latest job. "After the end, the job's data stays readable."
+    job: Option<Job>,
+    is_pending: bool,
+    /// A cancel waits for the end of the running request.
+    is_cancelled: bool,
+    /// Of the last job that ended: "the old result stands until the job ends".
+    result: JobResult,
+    processed: u64,
+    /// For the piece at the processed length.
+    retries_left: u8,
+    waits: Waits,
+}
+
+#[derive(Clone, Copy, Debug, PartialEq, Eq)]
+pub enum DeviceState {
+    Free,
+    Running(Request),
+    /// For this area.
+    Locked(usize),
+}
+
+/// A piece on its device.
+#[derive(Clone, Copy, Debug, PartialEq, Eq)]
+pub struct Request {
+    pub area: usize,
+    pub operation: Operation,
+    pub piece: Piece,
+    pub polls: u16,
+}
+
+/// What a pending job needs next.
+enum Need {
+    Piece(Operation, Piece),
+    /// The lock of this device.
+    Lock(usize),
+}
+
+/// The reported counts of a job.
+#[derive(Clone, Copy, Debug, Default, PartialEq, Eq)]
+pub struct Waits {
+    pub own: u32,
+    pub above: u32,
+    pub below: u32,
+    pub locked: u32,
+}
+
+/// What a round that closes finds a pending job waiting for.
+#[derive(Clone, Copy, Debug, PartialEq, Eq)]
+pub enum Wait {
+    Own,
+    Above,
+    Below,
+    Locked,
+}
+
+impl Waits {
+    /// "The own, above, below and locked counts stick at 4,294,967,295."
+    pub fn add(&mut self, wait: Wait) {
+        let count = match wait {
+            Wait::Own => &mut self.own,
+            Wait::Above => &mut self.above,
+            Wait::Below => &mut self.below,
+            Wait::Locked => &mut self.locked,
+        };
+        *count = count.saturating_add(1);
+    }
+}
+
+impl AreaState {
+    /// "Loading yields a fresh area: idle, result 0, no job, all counts 0."
+    fn fresh() -> Self {
+        AreaState {
+            job: None,
+            is_pending: false,
+            is_cancelled: false,
+            result: JobResult::Ok,
+            processed: 0,
+            retries_left: 0,
+            waits: Waits::default(),
+        }
+    }
+
+    /// A cancelled job ends with result 3 "for any cause".
+    fn end(&mut self, result: JobResult) {
+        self.result = if self.is_cancelled { JobResult::Cancelled } else { result };
+        self.is_pending = false;
+        self.is_cancelled = false;
+    }
+}
+
+impl Standing for Manager {
+    fn is_pending(&self, area: usize) -> bool {
+        self.areas[area].is_pending
+    }
+
+    fn lock_holder(&self, device: usize) -> Option<usize> {
+        match self.devices[device] {
+            DeviceState::Locked(area) => Some(area),
+            DeviceState::Free | DeviceState::Running(_) => None,
+        }
+    }
+}
+
+impl Manager {
+    /// Loads a plan, or gives the number of the question that refuses it.
+    pub fn load(bytes: &[u8]) -> Result<Manager, u8> {
+        let plan = plan::load(bytes)?;
+        let areas = vec![AreaState::fresh(); plan.areas.len()];
+        let devices = vec![DeviceState::Free; plan.devices.len()];
+        Ok(Manager { plan, areas, devices })
+    }
+
+    pub fn plan(&self) -> &Plan {
+        &self.plan
+    }
+
+    /// What a device does: the bench prints it.
+    pub fn device(&self, device: usize) -> DeviceState {
+        self.devices[device]
+    }
+
+    pub fn job(&mut self, operation: Operation, area: u32, address: u32, length: u32) -> u8 {
+        let target = Target { area, address, length };
+        match admission::job(&self.plan, self, operation, target) {
+            Ok(area) => self.accept(area, Job { job_type: JobType::Operation(operation), target }),
+            Err(number) => number,
+        }
+    }
+
+    pub fn lock(&mut self, area: u32, address: u32, length: u32) -> u8 {
+        let target = Target { area, address, length };
+        match admission::lock(&self.plan, self, target) {
+            Ok(lock) => self.accept(lock.area, Job { job_type: JobType::LockRequest, target }),
+            Err(number) => number,
+        }
+    }
+
+    /// "Release clears the lock."
+    pub fn release(&mut self, area: u32, address: u32, length: u32) -> u8 {
+        match admission::release(&self.plan, self, Target { area, address, length }) {
+            Ok(lock) => {
+                self.devices[lock.device] = DeviceState::Free;
+                0
+            }
+            Err(number) => number,
+        }
+    }
+
+    /// "A cancel ends a job without a running request immediately, result 3. With one running, the
+    /// area stays pending."
+    pub fn cancel(&mut self, area: u32) -> u8 {
+        match admission::cancel(&self.plan, self, area) {
+            Ok(area) => {
+                let is_running = self.running_request(area).is_some();
+                let state = &mut self.areas[area];
+                state.is_cancelled = true;
+                if !is_running {
+                    state.end(JobResult::Cancelled);
+                }
+                0
+            }
+            Err(number) => number,
+        }
+    }
+
+    /// "An accepted job makes its area pending and sets processed length and counts to 0; the old
+    /// result stands until the job ends."
+    fn accept(&mut self, area: usize, job: Job) -> u8 {
+        let state = &mut self.areas[area];
+        state.job = Some(job);
+        state.is_pending = true;
+        state.processed = 0;
+        state.waits = Waits::default();
+        self.renew_retries(area);
+        0
+    }
+
+    /// Retries are per piece: fresh at each new one.
+    fn renew_retries(&mut self, area: usize) {
+        self.areas[area].retries_left = match self.need(area) {
+            Some(Need::Piece(_, piece)) => piece.retries,
+            Some(Need::Lock(_)) | None => 0,
+        };
+    }
+
+    /// What the area's job needs next: its piece at the processed length or the lock of its device.
+    /// Nothing behind the last piece, or if there never was a job.
+    fn need(&self, area: usize) -> Option<Need> {
+        let state = &self.areas[area];
+        let job = state.job?;
+        let mut rest = job.target.addresses();
+        match job.job_type {
+            JobType::Operation(operation) => {
+                rest.start += state.processed;
+                let piece = segments::next_piece(&self.plan, operation, area, rest)?;
+                Some(Need::Piece(operation, piece))
+            }
+            JobType::LockRequest => segments::device(&self.plan, area, rest.start).map(Need::Lock),
+        }
+    }
+
+    /// The area's request, if one runs.
+    fn running_request(&self, area: usize) -> Option<Request> {
+        self.devices.iter().find_map(|device| match device {
+            DeviceState::Running(request) if request.area == area => Some(*request),
+            _ => None,
+        })
+    }
+}

@@ -1,0 +1,124 @@
+//! "Queries (status, result, processed length, job info, memory info of 000)": they answer with
+//! their values, or with the number of the first question answered "no".
+
+use super::{Manager, Request, Waits};
+use crate::admission;
+use crate::segments;
+
+/// "job info (type, address, length, result, processed length, counts, request's device, physical
+/// address, length, polls)".
+#[derive(Clone, Copy, Debug, PartialEq, Eq)]
+pub struct JobInfo {
+    /// 0, the "no job" of 000, before the first one.
+    pub job_type: u8,
+    pub address: u32,
+    pub length: u32,
+    pub result: u8,
+    pub processed: u32,
+    pub waits: Waits,
+    pub request: RequestInfo,
+}
+
+/// "Request fields are 0 unless the area's request runs; the hardware id is the device number."
+#[derive(Clone, Copy, Debug, Default, PartialEq, Eq)]
+pub struct RequestInfo {
+    pub device: u32,
+    pub physical_address: u32,
+    pub length: u32,
+    pub polls: u32,
+}
+
+/// The sub-area that holds an address: the fields of 000, 8.2.9, in its order, each with its source
+/// in the plan.
+#[derive(Clone, Copy, Debug, PartialEq, Eq)]
+pub struct MemoryInfo {
+    /// The area's logical start and the sizes of its earlier sub-areas.
+    pub logical_start_address: u32,
+    /// Physical start.
+    pub physical_start_address: u32,
+    /// "Size of sub address area in bytes -1": sector times sector count, less 1.
+    pub max_offset: u32,
+    /// Sector.
+    pub erase_sector_size: u32,
+    /// Sector burst.
+    pub erase_sector_burst_size: u32,
+    /// Smallest read.
+    pub min_read_size: u32,
+    /// Page.
+    pub write_page_size: u32,
+    /// Largest read.
+    pub max_read_size: u32,
+    /// Page burst.
+    pub write_page_burst_size: u32,
+    /// Device: "the hardware id is the device number".
+    pub hw_id: u32,
+}
+
+impl From<&Request> for RequestInfo {
+    fn from(request: &Request) -> Self {
+        RequestInfo {
+            device: u32::try_from(request.piece.device).expect("at most 4 devices"),
+            physical_address: narrow(request.piece.start),
+            length: narrow(request.piece.length),
+            polls: u32::from(request.polls),
+        }
+    }
+}
+
+impl Manager {
+    /// 0 idle, 1 pending (000, 8.2.6).
+    pub fn status(&self, area: u32) -> Result<u8, u8> {
+        let area = admission::query(&self.plan, area)?;
+        Ok(u8::from(self.areas[area].is_pending))
+    }
+
+    /// Of a pending job, the result of the one before.
+    pub fn result(&self, area: u32) -> Result<u8, u8> {
+        let area = admission::query(&self.plan, area)?;
+        Ok(self.areas[area].result.number())
+    }
+
+    pub fn processed(&self, area: u32) -> Result<u32, u8> {
+        let area = admission::query(&self.plan, area)?;
+        Ok(narrow(self.areas[area].processed))
+    }
+
+    pub fn job_info(&self, area: u32) -> Result<JobInfo, u8> {
+        let area = admission::query(&self.plan, area)?;
+        let state = &self.areas[area];
+        let request = self.running_request(area);
+        Ok(JobInfo {
+            job_type: state.job.map_or(0, |job| job.job_type.number()),
+            address: state.job.map_or(0, |job| job.target.address),
+            length: state.job.map_or(0, |job| job.target.length),
+            result: state.result.number(),
+            processed: narrow(state.processed),
+            waits: state.waits,
+            request: request.as_ref().map_or(RequestInfo::default(), RequestInfo::from),
+        })
+    }
+
+    pub fn memory_info(&self, area: u32, address: u32) -> Result<MemoryInfo, u8> {
+        let area = admission::memory_info(&self.plan, area, address)?;
+        let placed = segments::holder(&self.plan, area, u64::from(address))
+            .expect("the address is inside the area");
+        let sub_area = placed.sub_area;
+        Ok(MemoryInfo {
+            logical_start_address: narrow(placed.logical.start),
+            physical_start_address: sub_area.start,
+            max_offset: narrow(sub_area.size() - 1),
+            erase_sector_size: sub_area.sector,
+            erase_sector_burst_size: sub_area.sector_burst,
+            min_read_size: sub_area.smallest_read,
+            write_page_size: sub_area.page,
+            max_read_size: sub_area.largest_read,
+            write_page_burst_size: sub_area.page_burst,
+            hw_id: u32::from(sub_area.device),
+        })
+    }
+}
+
+/// Addresses and lengths inside an area fit: question 7 keeps its end within 32 bits.
+fn narrow(number: u64) -> u32 {
+    u32::try_from(number).expect("inside an area of an accepted plan")
+}

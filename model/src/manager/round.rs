@@ -1,0 +1,176 @@
+//! "A round": first every device with a running request takes its answer, then every unlocked device
+//! with nothing running starts something, then the waiting jobs count.
+
+use super::{DeviceState, Manager, Need, Request, Wait};
+use crate::admission;
+use crate::jobs::{Answer, JobResult, Operation};
+use crate::segments::index;
+use std::ops::Range;
+
+/// How a request ends.
+enum Ending {
+    Done,
+    /// After so many bytes.
+    Failed(u32),
+}
+
+impl Manager {
+    pub fn round(&mut self, answers: [Answer; 4], image: &mut [u8], store: &mut [u8]) -> u8 {
+        if let Err(number) = admission::round(&self.plan, image.len(), store.len()) {
+            return number;
+        }
+        for (device, answer) in (0..self.devices.len()).zip(answers) {
+            self.take_answer(device, answer, image, store);
+        }
+        // Not before all answers are in: any of them may bring a job to this device.
+        for device in 0..self.devices.len() {
+            self.start(device);
+        }
+        for area in 0..self.areas.len() {
+            self.count_wait(area);
+        }
+        0
+    }
+
+    /// "The answer for a device with nothing running is ignored."
+    fn take_answer(&mut self, device: usize, answer: Answer, image: &mut [u8], store: &mut [u8]) {
+        let DeviceState::Running(mut request) = self.devices[device] else {
+            return;
+        };
+        let ending = match answer {
+            Answer::Done => Ending::Done,
+            Answer::Failed(k) => Ending::Failed(k),
+            Answer::Pending => {
+                request.polls += 1;
+                if request.polls < self.plan.devices[device].patience {
+                    self.devices[device] = DeviceState::Running(request);
+                    return;
+                }
+                // "when polls reach the patience it counts as failed after 0 bytes"
+                Ending::Failed(0)
+            }
+        };
+        self.devices[device] = DeviceState::Free;
+        match ending {
+            Ending::Done => self.request_done(&request, image, store),
+            Ending::Failed(k) => self.request_failed(&request, k, image, store),
+        }
+    }
+
+    fn request_done(&mut self, request: &Request, image: &mut [u8], store: &mut [u8]) {
+        let is_consistent = self.perform(request, image, store);
+        let state = &mut self.areas[request.area];
+        if !is_consistent {
+            return state.end(JobResult::Inconsistent);
+        }
+        state.processed += request.piece.length;
+        if state.is_cancelled || self.need(request.area).is_none() {
+            return self.areas[request.area].end(JobResult::Ok);
+        }
+        self.renew_retries(request.area);
+    }
+
+    /// What a done request does to image and store, and whether it found what it should.
+    fn perform(&self, request: &Request, image: &mut [u8], store: &mut [u8]) -> bool {
+        let bytes = request.piece.bytes();
+        let window = || self.window_part(request, request.piece.length);
+        match request.operation {
+            Operation::Write => image[bytes].copy_from_slice(&store[window()]),
+            Operation::Erase => image[bytes].fill(255),
+            Operation::Read => store[window()].copy_from_slice(&image[bytes]),
+            Operation::Compare => return image[bytes] == store[window()],
+            Operation::BlankCheck => return image[bytes].iter().all(|byte| *byte == 255),
+        }
+        true
+    }
+
+    /// "Failed: a write or erase has acted on its first k bytes (all if k is larger), nothing else
+    /// has changed; with a retry left the same piece is due again, otherwise the job ends with 1."
+    fn request_failed(&mut self, request: &Request, k: u32, image: &mut [u8], store: &[u8]) {
+        let acted = u64::from(k).min(request.piece.length);
+        let bytes = request.piece.first_bytes(acted);
+        match request.operation {
+            Operation::Write => {
+                image[bytes].copy_from_slice(&store[self.window_part(request, acted)]);
+            }
+            Operation::Erase => image[bytes].fill(255),
+            Operation::Read | Operation::Compare | Operation::BlankCheck => {}
+        }
+        let state = &mut self.areas[request.area];
+        if state.is_cancelled || state.retries_left == 0 {
+            return state.end(JobResult::Failed);
+        }
+        state.retries_left -= 1;
+    }
+
+    /// The store bytes of the first `length` bytes of a request: "at the processed length from the
+    /// window's start".
+    fn window_part(&self, request: &Request, length: u64) -> Range<usize> {
+        let window_start = u64::from(self.plan.areas[request.area].window_start);
+        let start = window_start + self.areas[request.area].processed;
+        index(start)..index(start + length)
+    }
+
+    /// "every unlocked device with nothing running picks the highest ranked area whose next piece
+    /// lies on it, or whose lock request names it"
+    fn start(&mut self, device: usize) {
+        if self.devices[device] != DeviceState::Free {
+            return;
+        }
+        let mut chosen: Option<usize> = None;
+        for area in 0..self.areas.len() {
+            let is_candidate = self.needed_device(area) == Some(device);
+            if is_candidate && chosen.is_none_or(|other| self.ranks_above(area, other)) {
+                chosen = Some(area);
+            }
+        }
+        let Some(area) = chosen else {
+            return;
+        };
+        match self.need(area) {
+            Some(Need::Piece(operation, piece)) => {
+                let request = Request { area, operation, piece, polls: 0 };
+                self.devices[device] = DeviceState::Running(request);
+            }
+            Some(Need::Lock(_)) => {
+                self.devices[device] = DeviceState::Locked(area);
+                self.areas[area].end(JobResult::Ok);
+            }
+            None => unreachable!("the area needs this device"),
+        }
+    }
+
+    /// The device that a pending job needs.
+    fn needed_device(&self, area: usize) -> Option<usize> {
+        if !self.areas[area].is_pending {
+            return None;
+        }
+        match self.need(area)? {
+            Need::Piece(_, piece) => Some(piece.device),
+            Need::Lock(device) => Some(device),
+        }
+    }
+
+    /// "Rank: the larger priority is above; among equal ones the lower area number."
+    fn ranks_above(&self, area: usize, other: usize) -> bool {
+        let priority = self.plan.areas[area].priority;
+        let other_priority = self.plan.areas[other].priority;
+        priority > other_priority || (priority == other_priority && area < other)
+    }
+
+    /// "When the round closes, each job pending since before it adds 1 to one count." Calls and
+    /// rounds do not overlap, so every pending job is pending since before.
+    fn count_wait(&mut self, area: usize) {
+        let Some(device) = self.needed_device(area) else {
+            return;
+        };
+        let wait = match self.devices[device] {
+            DeviceState::Running(request) if request.area == area => Wait::Own,
+            DeviceState::Running(request) if self.ranks_above(request.area, area) => Wait::Above,
+            DeviceState::Running(_) => Wait::Below,
+            DeviceState::Locked(_) => Wait::Locked,
+            DeviceState::Free => unreachable!("the device would have started this job"),
+        };
+        self.areas[area].waits.add(wait);
+    }
+}

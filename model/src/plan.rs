@@ -1,0 +1,295 @@
+//! Plans: the records of document 01, "The plan", and loading, questions 1 to 8 of "Questions at
+//! the door".
+//!
+//! Sums and products of fields are exact: they are taken in 64 or 128 bits, where none can wrap.
+
+use std::ops::Range;
+
+pub const DEVICE_MARK: [u8; 2] = [0x44, 0x56];
+pub const AREA_MARK: [u8; 2] = [0x41, 0x52];
+pub const SUB_AREA_MARK: [u8; 2] = [0x53, 0x42];
+
+/// Question 3: "the sum of lengths at most 16,777,216".
+pub const DEVICE_SUM_LIMIT: u32 = 16_777_216;
+/// Question 4: "Windows end at or below 65,536".
+pub const WINDOW_LIMIT: u32 = 65_536;
+/// Question 7: "logical start plus size at most 4,294,967,295".
+pub const LOGICAL_LIMIT: u32 = 4_294_967_295;
+
+#[derive(Clone, Copy, Debug, PartialEq, Eq)]
+pub struct Device {
+    pub start: u32,
+    pub length: u32,
+    pub patience: u16,
+}
+
+#[derive(Clone, Copy, Debug, PartialEq, Eq)]
+pub struct Area {
+    pub priority: u16,
+    pub logical_start: u32,
+    pub window_start: u32,
+    pub window_length: u32,
+}
+
+#[derive(Clone, Copy, Debug, PartialEq, Eq)]
+pub struct SubArea {
+    pub area: u8,
+    pub device: u8,
+    /// A physical address: byte `start` of the image, not counted from the device's start.
+    pub start: u32,
+    pub sector: u32,
+    pub sector_burst: u32,
+    pub page: u32,
+    pub page_burst: u32,
+    pub smallest_read: u32,
+    pub largest_read: u32,
+    pub sector_count: u32,
+    pub write_retries: u8,
+    pub erase_retries: u8,
+}
+
+/// The records of a plan; a record's number is its index within its kind.
+#[derive(Clone, Debug, Default, PartialEq, Eq)]
+pub struct Plan {
+    pub devices: Vec<Device>,
+    pub areas: Vec<Area>,
+    pub sub_areas: Vec<SubArea>,
+}
+
+impl Device {
+    /// The image bytes of the device.
+    pub fn bytes(&self) -> Range<u64> {
+        let start = u64::from(self.start);
+        start..start + u64::from(self.length)
+    }
+}
+
+impl Area {
+    /// The job store bytes of the area.
+    pub fn window(&self) -> Range<u64> {
+        let start = u64::from(self.window_start);
+        start..start + u64::from(self.window_length)
+    }
+}
+
+impl SubArea {
+    /// "A sub-area has sector times sector count bytes."
+    pub fn size(&self) -> u64 {
+        u64::from(self.sector) * u64::from(self.sector_count)
+    }
+
+    /// The image bytes of the sub-area. The end fits: (2^32 - 1)^2 + (2^32 - 1) is below 2^64.
+    pub fn bytes(&self) -> Range<u64> {
+        let start = u64::from(self.start);
+        start..start + self.size()
+    }
+}
+
+impl Plan {
+    /// The sum of the device lengths.
+    pub fn device_sum(&self) -> u64 {
+        self.devices.iter().map(|d| u64::from(d.length)).sum()
+    }
+
+    /// The size of an area's logical space: "its sub-areas joined in plan order".
+    pub fn area_size(&self, area: usize) -> u128 {
+        let own = self.sub_areas.iter().filter(|s| usize::from(s.area) == area);
+        own.map(|s| u128::from(s.size())).sum()
+    }
+}
+
+/// A question about a plan of whole records, answered with yes or no.
+type Question = fn(&Plan) -> bool;
+
+/// Loads a plan, or gives the number of the first question answered "no". Each question is asked
+/// over the whole plan before the next.
+pub fn load(bytes: &[u8]) -> Result<Plan, u8> {
+    let plan = whole_records(bytes).ok_or(1)?;
+    let questions: [(u8, Question); 7] = [
+        (2, counts_allowed),
+        (3, devices_joined),
+        (4, windows_apart),
+        (5, sizes_fit),
+        (6, sub_areas_placed),
+        (7, areas_formed),
+        (8, sub_areas_apart),
+    ];
+    for (number, answer) in questions {
+        if !answer(&plan) {
+            return Err(number);
+        }
+    }
+    Ok(plan)
+}
+
+/// Question 1: "Whole records with known marks, in the order of kinds?" Gives the records if so.
+///
+/// A kind may be absent here; question 2 asks for the counts.
+pub fn whole_records(bytes: &[u8]) -> Option<Plan> {
+    let mut reader = Reader { rest: bytes };
+    let mut plan = Plan::default();
+    while !reader.rest.is_empty() {
+        match reader.take()? {
+            DEVICE_MARK if plan.areas.is_empty() && plan.sub_areas.is_empty() => {
+                plan.devices.push(reader.device()?)
+            }
+            AREA_MARK if plan.sub_areas.is_empty() => plan.areas.push(reader.area()?),
+            SUB_AREA_MARK => plan.sub_areas.push(reader.sub_area()?),
+            _ => return None,
+        }
+    }
+    Some(plan)
+}
+
+/// Question 2: "1 to 4 devices, 1 to 8 areas, 1 to 32 sub-areas?"
+pub fn counts_allowed(plan: &Plan) -> bool {
+    (1..=4).contains(&plan.devices.len())
+        && (1..=8).contains(&plan.areas.len())
+        && (1..=32).contains(&plan.sub_areas.len())
+}
+
+/// Question 3: "Devices: the first starts at 0, each next where the last ended, lengths and
+/// patience at least 1, the sum of lengths at most 16,777,216?"
+pub fn devices_joined(plan: &Plan) -> bool {
+    let mut last_end = 0;
+    for device in &plan.devices {
+        if device.bytes().start != last_end {
+            return false;
+        }
+        last_end = device.bytes().end;
+    }
+    let at_least_1 = |d: &Device| d.length >= 1 && d.patience >= 1;
+    plan.devices.iter().all(at_least_1) && plan.device_sum() <= u64::from(DEVICE_SUM_LIMIT)
+}
+
+/// Question 4: "Windows end at or below 65,536 and share no byte (length 0 allowed)?"
+///
+/// A window of length 0 ends at its start and shares no byte wherever it lies.
+pub fn windows_apart(plan: &Plan) -> bool {
+    let windows: Vec<_> = plan.areas.iter().map(Area::window).collect();
+    windows.iter().all(|w| w.end <= u64::from(WINDOW_LIMIT)) && share_no_byte(&windows)
+}
+
+/// Question 5: "No size or sector count 0; sector a multiple of page and of smallest read; each
+/// burst of its unit; largest read of smallest?"
+pub fn sizes_fit(plan: &Plan) -> bool {
+    plan.sub_areas.iter().all(|s| no_size_is_0(s) && multiples_hold(s))
+}
+
+/// The sizes are sector, page, smallest and largest read and both bursts.
+fn no_size_is_0(s: &SubArea) -> bool {
+    let reads = [s.smallest_read, s.largest_read];
+    let sizes = [s.sector, s.sector_burst, s.page, s.page_burst];
+    !sizes.contains(&0) && !reads.contains(&0) && s.sector_count != 0
+}
+
+fn multiples_hold(s: &SubArea) -> bool {
+    s.sector.is_multiple_of(s.page)
+        && s.sector.is_multiple_of(s.smallest_read)
+        && s.sector_burst.is_multiple_of(s.sector)
+        && s.page_burst.is_multiple_of(s.page)
+        && s.largest_read.is_multiple_of(s.smallest_read)
+}
+
+/// Question 6: "Area and device known, physical start a multiple of sector, sub-area inside its
+/// device?"
+pub fn sub_areas_placed(plan: &Plan) -> bool {
+    plan.sub_areas.iter().all(|s| {
+        let area_known = usize::from(s.area) < plan.areas.len();
+        let inside = match plan.devices.get(usize::from(s.device)) {
+            Some(device) => is_inside(&s.bytes(), &device.bytes()),
+            None => false,
+        };
+        area_known && s.start.is_multiple_of(s.sector) && inside
+    })
+}
+
+/// Question 7: "Area numbers never falling, each area with a sub-area, logical start plus size at
+/// most 4,294,967,295?"
+///
+/// The sum itself is held against the limit; logical spaces of different areas may overlap.
+pub fn areas_formed(plan: &Plan) -> bool {
+    let numbers = || plan.sub_areas.iter().map(|s| usize::from(s.area));
+    numbers().is_sorted()
+        && plan.areas.iter().enumerate().all(|(number, area)| {
+            let logical_end = u128::from(area.logical_start) + plan.area_size(number);
+            numbers().any(|n| n == number) && logical_end <= u128::from(LOGICAL_LIMIT)
+        })
+}
+
+/// Question 8: "No byte in two sub-areas?"
+pub fn sub_areas_apart(plan: &Plan) -> bool {
+    let spans: Vec<_> = plan.sub_areas.iter().map(SubArea::bytes).collect();
+    share_no_byte(&spans)
+}
+
+fn is_inside(inner: &Range<u64>, outer: &Range<u64>) -> bool {
+    outer.start <= inner.start && inner.end <= outer.end
+}
+
+/// No two of the spans have a byte in common.
+fn share_no_byte(spans: &[Range<u64>]) -> bool {
+    spans.iter().enumerate().all(|(index, one)| {
+        let later = &spans[index + 1..];
+        later.iter().all(|other| one.start.max(other.start) >= one.end.min(other.end))
+    })
+}
+
+/// Takes the fields of records from the front of the plan's bytes; `None` where the bytes run out.
+struct Reader<'a> {
+    rest: &'a [u8],
+}
+
+impl Reader<'_> {
+    fn take<const WIDTH: usize>(&mut self) -> Option<[u8; WIDTH]> {
+        let (taken, rest) = self.rest.split_first_chunk()?;
+        self.rest = rest;
+        Some(*taken)
+    }
+
+    fn u8(&mut self) -> Option<u8> {
+        Some(u8::from_le_bytes(self.take()?))
+    }
+
+    fn u16(&mut self) -> Option<u16> {
+        Some(u16::from_le_bytes(self.take()?))
+    }
+
+    fn u32(&mut self) -> Option<u32> {
+        Some(u32::from_le_bytes(self.take()?))
+    }
+
+    /// "Device: physical start 4, length 4, patience 2."
+    fn device(&mut self) -> Option<Device> {
+        Some(Device { start: self.u32()?, length: self.u32()?, patience: self.u16()? })
+    }
+
+    /// "Area: priority 2, logical start 4, window start 4, window length 4."
+    fn area(&mut self) -> Option<Area> {
+        Some(Area {
+            priority: self.u16()?,
+            logical_start: self.u32()?,
+            window_start: self.u32()?,
+            window_length: self.u32()?,
+        })
+    }
+
+    /// "Sub-area: area 1, device 1, physical start 4, sector 4, sector burst 4, page 4, page burst
+    /// 4, smallest read 4, largest read 4, sector count 4, write retries 1, erase retries 1."
+    fn sub_area(&mut self) -> Option<SubArea> {
+        Some(SubArea {
+            area: self.u8()?,
+            device: self.u8()?,
+            start: self.u32()?,
+            sector: self.u32()?,
+            sector_burst: self.u32()?,
+            page: self.u32()?,
+            page_burst: self.u32()?,
+            smallest_read: self.u32()?,
+            largest_read: self.u32()?,
+            sector_count: self.u32()?,
+            write_retries: self.u8()?,
+            erase_retries: self.u8()?,
+        })
+    }
+}

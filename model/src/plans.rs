@@ -1,0 +1,232 @@
+//! Making plans: from records to bytes, the plans of document 01 and regular ones, and the mix of
+//! random plans on which the model is compared.
+
+mod loose;
+mod small;
+mod valid;
+mod wounds;
+
+pub use loose::loose;
+pub use small::small;
+pub use valid::valid;
+pub use wounds::{byte_changes, cuts, field_changes, wounded};
+
+use crate::plan::{Area, Device, Plan, SubArea, AREA_MARK, DEVICE_MARK, SUB_AREA_MARK};
+use crate::random::Random;
+
+/// A number of a record as it stands in the bytes.
+#[derive(Clone, Copy)]
+pub struct Field {
+    pub value: u32,
+    /// In bytes.
+    pub width: usize,
+}
+
+/// A record as it stands in the bytes, also one that no question would let pass.
+#[derive(Clone)]
+pub struct RawRecord {
+    pub mark: [u8; 2],
+    pub fields: Vec<Field>,
+}
+
+impl Field {
+    fn new(value: impl Into<u32>, width: usize) -> Self {
+        let value = value.into();
+        Field { value, width }
+    }
+}
+
+impl RawRecord {
+    /// "A two-byte mark stands before each record. Numbers in it are unsigned, least significant
+    /// byte first."
+    pub fn bytes(&self) -> Vec<u8> {
+        let mut bytes = self.mark.to_vec();
+        for field in &self.fields {
+            bytes.extend(&field.value.to_le_bytes()[..field.width]);
+        }
+        bytes
+    }
+}
+
+impl From<&Device> for RawRecord {
+    fn from(device: &Device) -> Self {
+        RawRecord {
+            mark: DEVICE_MARK,
+            fields: vec![
+                Field::new(device.start, 4),
+                Field::new(device.length, 4),
+                Field::new(device.patience, 2),
+            ],
+        }
+    }
+}
+
+impl From<&Area> for RawRecord {
+    fn from(area: &Area) -> Self {
+        RawRecord {
+            mark: AREA_MARK,
+            fields: vec![
+                Field::new(area.priority, 2),
+                Field::new(area.logical_start, 4),
+                Field::new(area.window_start, 4),
+                Field::new(area.window_length, 4),
+            ],
+        }
+    }
+}
+
+impl From<&SubArea> for RawRecord {
+    fn from(sub_area: &SubArea) -> Self {
+        RawRecord {
+            mark: SUB_AREA_MARK,
+            fields: vec![
+                Field::new(sub_area.area, 1),
+                Field::new(sub_area.device, 1),
+                Field::new(sub_area.start, 4),
+                Field::new(sub_area.sector, 4),
+                Field::new(sub_area.sector_burst, 4),
+                Field::new(sub_area.page, 4),
+                Field::new(sub_area.page_burst, 4),
+                Field::new(sub_area.smallest_read, 4),
+                Field::new(sub_area.largest_read, 4),
+                Field::new(sub_area.sector_count, 4),
+                Field::new(sub_area.write_retries, 1),
+                Field::new(sub_area.erase_retries, 1),
+            ],
+        }
+    }
+}
+
+/// The records of a plan in the order of kinds.
+pub fn raw_records(plan: &Plan) -> Vec<RawRecord> {
+    let devices = plan.devices.iter().map(RawRecord::from);
+    let areas = plan.areas.iter().map(RawRecord::from);
+    let sub_areas = plan.sub_areas.iter().map(RawRecord::from);
+    devices.chain(areas).chain(sub_areas).collect()
+}
+
+pub fn encode_records(records: &[RawRecord]) -> Vec<u8> {
+    records.iter().flat_map(RawRecord::bytes).collect()
+}
+
+pub fn encode(plan: &Plan) -> Vec<u8> {
+    encode_records(&raw_records(plan))
+}
+
+/// Document 01's plan T.
+pub fn plan_t() -> Plan {
+    let sub_area_0 = SubArea {
+        area: 0,
+        device: 0,
+        start: 0,
+        sector: 16,
+        sector_burst: 32,
+        page: 4,
+        page_burst: 8,
+        smallest_read: 1,
+        largest_read: 8,
+        sector_count: 2,
+        write_retries: 1,
+        erase_retries: 0,
+    };
+    let sub_area_1 = SubArea {
+        area: 1,
+        start: 32,
+        sector_burst: 16,
+        page_burst: 4,
+        largest_read: 4,
+        write_retries: 0,
+        ..sub_area_0
+    };
+    let area = |priority, logical_start, window_start| Area {
+        priority,
+        logical_start,
+        window_start,
+        window_length: 16,
+    };
+    Plan {
+        devices: vec![Device { start: 0, length: 64, patience: 2 }],
+        areas: vec![area(1, 0, 0), area(5, 256, 16)],
+        sub_areas: vec![sub_area_0, sub_area_1],
+    }
+}
+
+/// Bytes of each device of a regular plan.
+const REGULAR_DEVICE: u32 = 16_384;
+
+/// A regular plan of these counts, which only question 2 can refuse as long as `areas` is at most
+/// `sub_areas`: the sub-areas have plan T's sizes, lie on the devices in turn and are spread evenly
+/// over the areas.
+pub fn regular(devices: u32, areas: u32, sub_areas: u32) -> Plan {
+    let device =
+        |number| Device { start: number * REGULAR_DEVICE, length: REGULAR_DEVICE, patience: 2 };
+    let area = |number| Area {
+        priority: 1,
+        logical_start: 0,
+        window_start: number * 16,
+        window_length: 16,
+    };
+    let sub_area = |number| {
+        let (row, device) = (number / devices.max(1), number % devices.max(1));
+        SubArea {
+            area: low_byte(number * areas / sub_areas),
+            device: low_byte(device),
+            start: device * REGULAR_DEVICE + row * 32,
+            ..plan_t().sub_areas[0]
+        }
+    };
+    Plan {
+        devices: (0..devices).map(device).collect(),
+        areas: (0..areas).map(area).collect(),
+        sub_areas: (0..sub_areas).map(sub_area).collect(),
+    }
+}
+
+/// The plan with most records that can be accepted.
+pub fn largest() -> Plan {
+    regular(4, 8, 32)
+}
+
+/// A plan drawn from the mix of all kinds made here. The kinds are weighed so that every question
+/// answers "no" often.
+pub fn any(random: &mut Random) -> Vec<u8> {
+    match random.below(16) {
+        0 => encode(&valid(random)),
+        1..=5 => {
+            let plan = valid(random);
+            wounded(random, &plan, 1)
+        }
+        6..=7 => {
+            let (plan, wounds) = (valid(random), random.between(2, 5));
+            wounded(random, &plan, wounds)
+        }
+        8..=13 => encode(&loose(random)),
+        14 => {
+            let plan = loose(random);
+            wounded(random, &plan, 1)
+        }
+        _ => noise(random),
+    }
+}
+
+/// Known marks and nothing else but random bytes.
+fn noise(random: &mut Random) -> Vec<u8> {
+    let mut bytes = Vec::new();
+    for _ in 0..random.below(4) {
+        let (mark, width) = random.pick(&[(DEVICE_MARK, 10), (AREA_MARK, 14), (SUB_AREA_MARK, 36)]);
+        bytes.extend(mark);
+        bytes.extend((0..width).map(|_| random.byte()));
+    }
+    bytes
+}
+
+/// The low byte of a number, as a record field of width 1 keeps it.
+fn low_byte(number: u32) -> u8 {
+    number.to_le_bytes()[0]
+}
+
+/// The low two bytes of a number, as a record field of width 2 keeps them.
+fn low_two_bytes(number: u32) -> u16 {
+    let [low, high, ..] = number.to_le_bytes();
+    u16::from_le_bytes([low, high])
+}

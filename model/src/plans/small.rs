@@ -1,0 +1,74 @@
+//! Small plans for lists of calls: short pieces, little patience and few retries, so that within a
+//! few rounds jobs end, requests are dropped and tried again, and areas stand in each other's way.
+
+use super::low_byte;
+use super::valid::{divisor, spread_over_areas};
+use crate::plan::{Area, Device, Plan, SubArea, LOGICAL_LIMIT};
+use crate::random::Random;
+
+pub fn small(random: &mut Random) -> Plan {
+    let device_count = random.pick(&[1, 1, 1, 2, 2, 3, 4]);
+    let area_count = random.pick(&[1, 2, 2, 3, 3, 4, 8]);
+    let sub_area_count = area_count + random.below(5);
+    let mut plan = image_layout(random, device_count, sub_area_count);
+    // Mixed, the sub-areas of an area lie on several devices, some of them again and again.
+    random.shuffle(&mut plan.sub_areas);
+    spread_over_areas(random, area_count, &mut plan.sub_areas);
+    plan.areas = areas(random, area_count, &plan);
+    plan
+}
+
+/// Devices joined from 0 on and, on each, sub-areas from its start upwards.
+fn image_layout(random: &mut Random, device_count: u32, sub_area_count: u32) -> Plan {
+    let homes: Vec<_> = (0..sub_area_count).map(|_| random.below(device_count)).collect();
+    let mut plan = Plan::default();
+    let mut end = 0;
+    for device in 0..device_count {
+        let start = end;
+        for _ in homes.iter().filter(|home| **home == device) {
+            let sub_area = sub_area_from(random, end, device);
+            end = sub_area.start + sub_area.sector * sub_area.sector_count;
+            plan.sub_areas.push(sub_area);
+        }
+        end += if end == start { 1 } else { random.below(3) };
+        let patience = random.pick(&[1, 2, 2, 3, 4]);
+        plan.devices.push(Device { start, length: end - start, patience });
+    }
+    plan
+}
+
+fn sub_area_from(random: &mut Random, end: u32, device: u32) -> SubArea {
+    let sector = random.pick(&[1, 2, 3, 4, 6, 8]);
+    let page = divisor(random, sector);
+    let smallest_read = divisor(random, sector);
+    SubArea {
+        area: 0,
+        device: low_byte(device),
+        start: end.next_multiple_of(sector),
+        sector,
+        sector_burst: sector * random.between(1, 3),
+        page,
+        page_burst: page * random.between(1, 4),
+        smallest_read,
+        largest_read: smallest_read * random.between(1, 4),
+        sector_count: random.between(1, 4),
+        write_retries: random.pick(&[0, 0, 1, 2]),
+        erase_retries: random.pick(&[0, 0, 1, 2]),
+    }
+}
+
+/// Windows from 0 on. Priorities are few, so that equal ones are frequent.
+fn areas(random: &mut Random, area_count: u32, plan: &Plan) -> Vec<Area> {
+    let mut window_end = 0;
+    let mut areas = Vec::new();
+    for number in (0..).take(usize::try_from(area_count).expect("at most 8 areas")) {
+        let size = u32::try_from(plan.area_size(number)).expect("a small area");
+        let window_start = window_end + random.below(2);
+        let window_length = random.pick(&[0, 4, 8, 16, 16, 32, 32]);
+        window_end = window_start + window_length;
+        let priority = random.pick(&[0, 1, 2, 65_535]);
+        let logical_start = random.pick(&[0, 100, LOGICAL_LIMIT - size]);
+        areas.push(Area { priority, logical_start, window_start, window_length });
+    }
+    areas
+}

@@ -1,0 +1,37 @@
+//! Random lists of calls over a plan: as values for the checks of the demands, and as the lines of a
+//! printed session.
+//!
+//! The lists are drawn without looking at any state, so any part of one is again a list that can be
+//! run. What makes jobs run to their end, fail, be tried again and wait for each other is the choice
+//! of plans, of ranges that mostly fit the plan, and of moods in which the devices answer.
+
+mod calls;
+mod lines;
+
+pub use calls::{steps, Memory, Step};
+pub use lines::{lines, text, Line};
+
+use crate::plan::Plan;
+use crate::plans::{largest, plan_t, small, valid};
+use crate::random::Random;
+use crate::session::BENCH_SUM_LIMIT;
+
+/// A plan that the bench takes.
+pub fn bench_plan(random: &mut Random) -> Plan {
+    match random.below(16) {
+        0 => plan_t(),
+        1 => largest(),
+        2 => medium(random),
+        _ => small(random),
+    }
+}
+
+/// A random valid plan on the bench.
+fn medium(random: &mut Random) -> Plan {
+    loop {
+        let plan = valid(random);
+        if plan.device_sum() <= BENCH_SUM_LIMIT {
+            return plan;
+        }
+    }
+}

@@ -1,0 +1,213 @@
+//! "The wait book": document 01's definition of what the four counts of demand 3 must be, over the
+//! plan and the arguments of the calls, with the image and store that a round is lent.
+//!
+//! The book reads no field of the manager and no answer of it. With the manager it shares the terms
+//! of [`crate::jobs`], the cutting of jobs into pieces and the questions at the door, which it asks
+//! of its own state. Everything else is written a second time and in another style: every call is a
+//! function from an old book to the next, a round first says what becomes of every device and then
+//! makes every entry anew, and jobs go through a list of their pieces instead of measuring the rest
+//! of their range.
+
+mod bounds;
+mod round;
+
+pub use round::{Fate, Finished, Outcome};
+
+use crate::admission::{self, Standing};
+use crate::jobs::{Job, JobType, Operation, Target};
+use crate::plan::Plan;
+use crate::segments::{self, Piece};
+use std::rc::Rc;
+
+#[derive(Clone, Debug, PartialEq, Eq)]
+pub struct WaitBook {
+    plan: Rc<Plan>,
+    stations: Vec<Station>,
+    entries: Vec<Entry>,
+}
+
+/// "for each device what runs there with its polls, or the area it is locked for"
+#[derive(Clone, Copy, Debug, PartialEq, Eq)]
+pub enum Station {
+    Nothing,
+    Runs { area: usize, piece: Piece, polls: u64 },
+    LockedFor(usize),
+}
+
+/// "for each area its latest job with next piece and retries left, whether it is pending, whether
+/// it is cancelled, whether a round ended it, and rounds, own, above, below and locked, numbers
+/// without a limit"
+#[derive(Clone, Debug, PartialEq, Eq)]
+pub struct Entry {
+    pub work: Option<Work>,
+    /// The number of the next piece, from 0.
+    pub next: usize,
+    pub retries_left: u8,
+    pub is_pending: bool,
+    pub is_cancelled: bool,
+    pub round_ended_it: bool,
+    pub numbers: Numbers,
+    /// Not part of document 01's book: the latest job's requests that were answered done, in order.
+    pub done: Vec<Piece>,
+}
+
+/// A job and what it consists of.
+#[derive(Clone, Debug, PartialEq, Eq)]
+pub struct Work {
+    pub job: Job,
+    pub task: Task,
+}
+
+#[derive(Clone, Debug, PartialEq, Eq)]
+pub enum Task {
+    Pieces(Operation, Rc<[Piece]>),
+    LockOf(usize),
+}
+
+/// In 128 bits no list of calls brings them to a limit.
+#[derive(Clone, Copy, Debug, Default, PartialEq, Eq)]
+pub struct Numbers {
+    pub rounds: u128,
+    pub own: u128,
+    pub above: u128,
+    pub below: u128,
+    pub locked: u128,
+}
+
+impl Entry {
+    /// "At the start nothing runs, is locked or pending, and the numbers are 0."
+    fn blank() -> Entry {
+        Entry {
+            work: None,
+            next: 0,
+            retries_left: 0,
+            is_pending: false,
+            is_cancelled: false,
+            round_ended_it: false,
+            numbers: Numbers::default(),
+            done: Vec::new(),
+        }
+    }
+
+    /// "a job or lock sets its area's five numbers to 0"
+    fn of_new(work: Work) -> Entry {
+        let first_retries = work.task.piece(0).map_or(0, |piece| piece.retries);
+        Entry { work: Some(work), retries_left: first_retries, is_pending: true, ..Entry::blank() }
+    }
+
+    /// The first piece not yet done.
+    fn next_piece(&self) -> Option<Piece> {
+        self.work.as_ref()?.task.piece(self.next)
+    }
+
+    /// "The device a job needs is that of its first piece not yet done, or of its lock request's
+    /// range." None if the job is not pending.
+    fn needs(&self) -> Option<usize> {
+        let work = self.work.as_ref().filter(|_| self.is_pending)?;
+        match work.task {
+            Task::Pieces(..) => self.next_piece().map(|piece| piece.device),
+            Task::LockOf(device) => Some(device),
+        }
+    }
+}
+
+impl Task {
+    fn piece(&self, number: usize) -> Option<Piece> {
+        match self {
+            Task::Pieces(_, pieces) => pieces.get(number).copied(),
+            Task::LockOf(_) => None,
+        }
+    }
+}
+
+impl Standing for WaitBook {
+    fn is_pending(&self, area: usize) -> bool {
+        self.entries[area].is_pending
+    }
+
+    fn lock_holder(&self, device: usize) -> Option<usize> {
+        match self.stations[device] {
+            Station::LockedFor(area) => Some(area),
+            _ => None,
+        }
+    }
+}
+
+impl WaitBook {
+    pub fn of(plan: &Plan) -> WaitBook {
+        WaitBook {
+            plan: Rc::new(plan.clone()),
+            stations: plan.devices.iter().map(|_| Station::Nothing).collect(),
+            entries: plan.areas.iter().map(|_| Entry::blank()).collect(),
+        }
+    }
+
+    pub fn entry(&self, area: usize) -> &Entry {
+        &self.entries[area]
+    }
+
+    pub fn station(&self, device: usize) -> Station {
+        self.stations[device]
+    }
+
+    /// The book after a job, and the number that the questions give it.
+    pub fn job(self, operation: Operation, target: Target) -> (WaitBook, u8) {
+        match admission::job(&self.plan, &self, operation, target) {
+            Err(number) => (self, number),
+            Ok(area) => {
+                let range = target.addresses();
+                let pieces = segments::pieces(&self.plan, operation, area, range).collect();
+                let job = Job { job_type: JobType::Operation(operation), target };
+                let work = Work { job, task: Task::Pieces(operation, pieces) };
+                (self.with_entry(area, Entry::of_new(work)), 0)
+            }
+        }
+    }
+
+    /// The book after a lock, and the number that the questions give it.
+    pub fn lock(self, target: Target) -> (WaitBook, u8) {
+        match admission::lock(&self.plan, &self, target) {
+            Err(number) => (self, number),
+            Ok(lock) => {
+                let job = Job { job_type: JobType::LockRequest, target };
+                let work = Work { job, task: Task::LockOf(lock.device) };
+                (self.with_entry(lock.area, Entry::of_new(work)), 0)
+            }
+        }
+    }
+
+    /// The book after a release, and the number that the questions give it.
+    pub fn release(self, target: Target) -> (WaitBook, u8) {
+        match admission::release(&self.plan, &self, target) {
+            Err(number) => (self, number),
+            Ok(lock) => (self.with_station(lock.device, Station::Nothing), 0),
+        }
+    }
+
+    /// The book after a cancel, and the number that the questions give it. A job without a running
+    /// request ends; one with a running request is marked and stays pending.
+    pub fn cancel(self, area: u32) -> (WaitBook, u8) {
+        match admission::cancel(&self.plan, &self, area) {
+            Err(number) => (self, number),
+            Ok(area) => {
+                let is_pending = self.runs_for(area);
+                let entry = Entry { is_pending, is_cancelled: true, ..self.entries[area].clone() };
+                (self.with_entry(area, entry), 0)
+            }
+        }
+    }
+
+    fn runs_for(&self, wanted: usize) -> bool {
+        self.stations.iter().any(|s| matches!(s, Station::Runs { area, .. } if *area == wanted))
+    }
+
+    fn with_entry(mut self, area: usize, entry: Entry) -> WaitBook {
+        self.entries[area] = entry;
+        self
+    }
+
+    fn with_station(mut self, device: usize, station: Station) -> WaitBook {
+        self.stations[device] = station;
+        self
+    }
+}

@@ -1,0 +1,39 @@
+//! The two bounds of demand 3 on a job's numbers: functions of the plan and the job alone.
+
+use super::{Task, WaitBook, Work};
+
+impl WaitBook {
+    /// "Own is at most patience times (retries + 1), summed over the job's pieces." A lock request
+    /// has no piece.
+    pub fn own_bound(&self, work: &Work) -> u128 {
+        match &work.task {
+            Task::Pieces(_, pieces) => {
+                let attempts = |retries: u8| u128::from(retries) + 1;
+                pieces.iter().map(|p| self.patience(p.device) * attempts(p.retries)).sum()
+            }
+            Task::LockOf(_) => 0,
+        }
+    }
+
+    /// "Below is at most patience less one, summed over its stretches on one chip."
+    pub fn below_bound(&self, work: &Work) -> u128 {
+        stretches(work).into_iter().map(|device| self.patience(device) - 1).sum()
+    }
+
+    fn patience(&self, device: usize) -> u128 {
+        u128::from(self.plan.devices[device].patience)
+    }
+}
+
+/// The devices of a job's stretches: "A stretch is a longest run of consecutive pieces on one
+/// device; a lock request has one stretch and no piece."
+fn stretches(work: &Work) -> Vec<usize> {
+    match &work.task {
+        Task::Pieces(_, pieces) => {
+            let mut devices: Vec<_> = pieces.iter().map(|piece| piece.device).collect();
+            devices.dedup();
+            devices
+        }
+        Task::LockOf(device) => vec![*device],
+    }
+}
