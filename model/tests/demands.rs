@@ -1,7 +1,9 @@
 //! The three demands after every call of long random runs, and the bounds of demand 3 reached.
 
+use model::calls::Call;
 use model::demands::{Tally, Trial};
-use model::plan::Plan;
+use model::jobs::{Answer, Operation, Target};
+use model::plan::{Area, Device, Plan, SubArea};
 use model::plans::{largest, plan_t, small, valid};
 use model::random::Random;
 use model::sessions::{steps, Step};
@@ -9,7 +11,7 @@ use std::time::Instant;
 
 const STEPS_PER_PLAN: usize = 400;
 
-/// Memory of one byte, or of many.
+/// Bytes of one value, of two, or of any.
 fn memory(random: &mut Random, length: usize) -> Vec<u8> {
     match random.below(4) {
         0 => (0..length).map(|_| random.byte()).collect(),
@@ -19,6 +21,7 @@ fn memory(random: &mut Random, length: usize) -> Vec<u8> {
     }
 }
 
+/// A trial with random memory; the store goes beyond the furthest window end.
 fn trial(random: &mut Random, plan: &Plan) -> Trial {
     let sum = usize::try_from(plan.device_sum()).expect("an image");
     let end = plan.areas.iter().map(|area| area.window().end).max().expect("an area");
@@ -48,28 +51,156 @@ fn runs(seed: u64, plans: u32, plan: fn(&mut Random) -> Plan) -> Tally {
         let name = format!("seed {seed}, plan {number}");
         run(&mut trial(&mut random, &plan), &steps, &mut tally, &name);
     }
-    let calls = tally.calls as f64 / start.elapsed().as_secs_f64();
-    println!("seed {seed}, {plans} plans, {calls:.0} calls checked per second\n{tally}\n");
+    let seconds = start.elapsed().as_secs_f64();
+    println!("seed {seed}, {plans} plans, {seconds:.1} seconds\n{tally}\n");
     tally
 }
 
-/// Every number, result and kind of wait came up at least so often.
+/// Every number, result and kind of wait came up at least so often, every type of job with every
+/// result that it can have, and both bounds were reached.
 fn assert_tried(tally: &Tally, often: u64) {
-    for number in std::iter::once(0).chain(10..=17) {
+    for number in std::iter::once(0).chain(10..=19) {
         let count = tally.numbers.count(number);
         assert!(count >= often, "number {number}: only {count}");
     }
-    for result in 0..=3 {
-        let count = tally.results(result);
-        assert!(count >= often, "result {result}: only {count}");
+    for ending in [1, 2, 3, 4, 6]
+        .into_iter()
+        .flat_map(|job_type| [0, 1, 3].map(|r| (job_type, r)))
+        .chain([(3, 2), (6, 2), (7, 0), (7, 3)])
+    {
+        let count = tally.endings.get(&ending).copied().unwrap_or(0);
+        assert!(count >= often, "type and result {ending:?}: only {count}");
     }
+    assert_eq!(tally.endings.len(), 19, "{:?}", tally.endings);
     for (wait, count) in ["own", "above", "below", "locked"].iter().zip(tally.waits) {
         assert!(count >= u128::from(often), "{wait}: only {count}");
     }
+    let bounds = [tally.own_bounds_reached, tally.below_bounds_reached];
+    assert!(bounds.iter().all(|reached| *reached >= often), "{bounds:?}");
 }
 
 #[test]
 fn small_plans() {
-    let tally = runs(1, 1_000, small);
-    assert_tried(&tally, 100);
+    assert_tried(&runs(51, 9_000, small), 1_000);
+}
+
+/// Longer jobs on plan T, on the plan with most records, and on random plans with little patience.
+#[test]
+fn other_plans() {
+    let plan = |random: &mut Random| match random.below(8) {
+        0..=2 => plan_t(),
+        3 => largest(),
+        _ => impatient(random),
+    };
+    let tally = runs(52, 4_000, plan);
+    assert!((0..=3).all(|result| tally.results(result) >= 1_000));
+    assert!(tally.waits.iter().all(|count| *count >= 1_000));
+}
+
+/// A random valid plan with an image that is not too large to be looked at after every call.
+fn impatient(random: &mut Random) -> Plan {
+    loop {
+        let mut plan = valid(random);
+        if plan.device_sum() <= 4_096 {
+            for device in &mut plan.devices {
+                device.patience = device.patience.min(5);
+            }
+            return plan;
+        }
+    }
+}
+
+/// Device 0 of patience 3 and device 1 of patience 4. Area 0, the highest, has 8 bytes on device 0,
+/// 4 on device 1 and 4 on device 0 again: three stretches. Area 1 lies on device 0, area 2 on 1.
+fn three_stretches() -> Plan {
+    let sub_area = |area, device, start, sector_count, write_retries| SubArea {
+        area,
+        device,
+        start,
+        sector: 4,
+        sector_burst: 4,
+        page: 4,
+        page_burst: 4,
+        smallest_read: 4,
+        largest_read: 4,
+        sector_count,
+        write_retries,
+        erase_retries: 0,
+    };
+    let area = |priority, window_start| Area {
+        priority,
+        logical_start: 0,
+        window_start,
+        window_length: 16,
+    };
+    Plan {
+        devices: vec![
+            Device { start: 0, length: 32, patience: 3 },
+            Device { start: 32, length: 32, patience: 4 },
+        ],
+        areas: vec![area(9, 0), area(1, 16), area(1, 32)],
+        sub_areas: vec![
+            sub_area(0, 0, 0, 2, 2),
+            sub_area(0, 1, 32, 1, 1),
+            sub_area(0, 0, 8, 1, 0),
+            sub_area(1, 0, 16, 1, 0),
+            sub_area(2, 1, 48, 1, 0),
+        ],
+    }
+}
+
+fn write(area: u32, length: u32) -> Step {
+    Step::Call(Call::Job(Operation::Write, Target { area, address: 0, length }))
+}
+
+fn round(device_0: Answer, device_1: Answer) -> Step {
+    Step::Call(Call::Round([device_0, device_1, Answer::Done, Answer::Done]))
+}
+
+/// Runs the steps on fresh memory and gives own and below of area 0, which must have succeeded, with
+/// their bounds.
+fn bounds_after(steps: &[Step]) -> [(u128, u128); 2] {
+    let mut trial = Trial::of(&three_stretches(), vec![255; 64], vec![0; 48]);
+    run(&mut trial, steps, &mut Tally::default(), "bounds");
+    let info = trial.manager().job_info(0).expect("area 0");
+    assert_eq!((info.result, info.processed), (0, 16));
+    let entry = trial.book().entry(0);
+    assert!(entry.round_ended_it);
+    let work = entry.work.as_ref().expect("a job");
+    let bounds = (trial.book().own_bound(work), trial.book().below_bound(work));
+    [(entry.numbers.own, bounds.0), (entry.numbers.below, bounds.1)]
+}
+
+/// Every attempt but the last of each piece is dropped, and the last is done when one more poll
+/// would have dropped it.
+fn slowest_success() -> Vec<Step> {
+    let (p, d) = (Answer::Pending, Answer::Done);
+    let mut steps = vec![write(0, 16), round(p, p)];
+    for (patience, retries) in [(3, 2), (3, 2), (4, 1), (3, 0)] {
+        let polls = patience * (retries + 1) - 1;
+        steps.extend((0..polls).map(|_| round(p, p)));
+        steps.push(round(d, d));
+    }
+    steps
+}
+
+/// At the start of each stretch a lower request has just begun, and is never answered.
+fn slowest_others() -> Vec<Step> {
+    let (p, d) = (Answer::Pending, Answer::Done);
+    let mut steps = vec![write(1, 4), round(p, p), write(0, 16)];
+    // Two rounds below, then area 0 starts on device 0 and gets through its first piece.
+    steps.extend([round(p, p), round(p, p), round(p, p), round(d, p)]);
+    // Area 2 starts before area 0 comes to device 1: three rounds below.
+    steps.extend([write(2, 4), round(p, p), round(d, p), round(p, p), round(p, p), round(p, p)]);
+    // Area 1 starts before area 0 comes back to device 0: two rounds below.
+    steps.extend([write(1, 4), round(p, p), round(p, d), round(p, p), round(p, p), round(d, p)]);
+    steps
+}
+
+#[test]
+fn both_bounds_are_reached() {
+    let [own, _] = bounds_after(&slowest_success());
+    assert_eq!(own, (9 + 9 + 8 + 3, 29));
+    let [_, below] = bounds_after(&slowest_others());
+    assert_eq!(below, (2 + 3 + 2, 7));
 }

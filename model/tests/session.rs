@@ -311,9 +311,8 @@ fn a_line_that_is_not_read_changes_nothing() {
 fn length_of_lines() {
     let plan = encode(&plan_t());
     let padded = |length: usize, line: &str| {
-        let (first, rest) = line.split_at(1);
         let zeros = "0".repeat(length - line.len());
-        format!("{zeros}{first}{rest}\n").into_bytes()
+        format!("{zeros}{line}\n").into_bytes()
     };
     assert_eq!(run_session(Some(&plan), &padded(4_096, "1 0 4 12")), b"0\n");
     assert_eq!(run_session(Some(&plan), &padded(4_097, "1 0 4 12")), b"?\n");
@@ -438,7 +437,7 @@ fn input_may_come_in_any_parts() {
         let plan = encode(&bench_plan(&mut random));
         let whole_plan = model::plan::load(&plan).expect("an accepted plan");
         let input = text(&lines(&mut random, &whole_plan, 100), random.one_in(2));
-        let mut session = Session::open(Some(&plan)).ok().expect("an accepted plan");
+        let mut session = Session::open(Some(&plan)).expect("an accepted plan");
         let mut output = Vec::new();
         let mut rest = input.as_slice();
         while !rest.is_empty() {

@@ -1,0 +1,30 @@
+# make run: the bench on a plan and a session. make test: all tests, and last the proofs.
+PLAN ?= examples/plan-t/plan.bin
+SESSION ?= examples/plan-t/session.txt
+
+.PHONY: run test bench model proved-library
+
+run:
+	@rt check bench >target.log 2>&1 || { cat target.log; rm -f target.log; exit 1; }
+	@rm -f target.log
+	@sh tools/run-bench.sh "$(PLAN)" "$(SESSION)"
+
+# What C and Rust link, in target/staticlib.
+proved-library:
+	@rt staticlib interface >target.log 2>&1 || { cat target.log; rm -f target.log; exit 1; }
+	@rm -f target.log
+
+model:
+	cargo test --offline --release --quiet --manifest-path model/Cargo.toml
+
+bench: proved-library
+	cargo run --offline --release --quiet --manifest-path model/Cargo.toml --features proved --bin bench_load
+
+# `rt ci` comes last: its last line, 'N passed, 0 failed', is the verdict.
+test:
+	rt fmt --check
+	sh examples/recorded-plans.sh --check
+	$(MAKE) --no-print-directory model
+	$(MAKE) --no-print-directory proved-library
+	cargo test --offline --release --quiet --manifest-path model/Cargo.toml --features proved --test proved_load
+	rt ci

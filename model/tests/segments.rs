@@ -1,0 +1,166 @@
+//! The mapping, the pieces and questions 12 to 15 decided another way: byte by byte.
+
+use model::admission::{self, Standing};
+use model::jobs::{Operation, Target};
+use model::plan::{Plan, SubArea};
+use model::plans::{plan_t, small};
+use model::random::Random;
+use model::segments::{pieces, Piece};
+use std::ops::Range;
+
+/// A byte of an area: its physical address and its sub-area.
+#[derive(Clone, Copy)]
+struct Byte {
+    physical: u64,
+    sub_area: usize,
+}
+
+/// The bytes of an area's logical space, in order.
+fn area_bytes(plan: &Plan, area: usize) -> Vec<Byte> {
+    let own = plan.sub_areas.iter().enumerate().filter(|(_, s)| usize::from(s.area) == area);
+    own.flat_map(|(sub_area, s)| s.bytes().map(move |physical| Byte { physical, sub_area }))
+        .collect()
+}
+
+/// How many of the first bytes lie in the sub-area of the first one.
+fn bytes_here(bytes: &[Byte]) -> usize {
+    bytes.iter().take_while(|byte| byte.sub_area == bytes[0].sub_area).count()
+}
+
+/// Cuts the bytes of a job.
+fn cut(plan: &Plan, operation: Operation, mut bytes: &[Byte]) -> Vec<Piece> {
+    let size = |number: u32| usize::try_from(number).expect("small sizes");
+    let mut pieces = Vec::new();
+    while let Some(first) = bytes.first() {
+        let s = &plan.sub_areas[first.sub_area];
+        let here = bytes_here(bytes);
+        let burst = |burst: u32, unit: u32| {
+            let is_start = first.physical % u64::from(burst) == 0;
+            size(if is_start && size(burst) <= here { burst } else { unit })
+        };
+        let length = match operation {
+            Operation::Erase => burst(s.sector_burst, s.sector),
+            Operation::Write => burst(s.page_burst, s.page),
+            _ => here.min(size(s.largest_read)),
+        };
+        pieces.push(Piece {
+            device: usize::from(s.device),
+            start: first.physical,
+            length: u64::try_from(length).expect("small sizes"),
+            retries: match operation {
+                Operation::Write => s.write_retries,
+                Operation::Erase => s.erase_retries,
+                _ => 0,
+            },
+        });
+        bytes = &bytes[length..];
+    }
+    pieces
+}
+
+/// Every area idle, no device locked.
+struct AllIdle;
+
+impl Standing for AllIdle {
+    fn is_pending(&self, _area: usize) -> bool {
+        false
+    }
+
+    fn lock_holder(&self, _device: usize) -> Option<usize> {
+        None
+    }
+}
+
+/// The bytes of a range, if all of them are in the area.
+fn range_bytes<'a>(plan: &Plan, area: &'a [Byte], target: Target) -> Option<&'a [Byte]> {
+    let record = plan.areas[usize::try_from(target.area).expect("a known area")];
+    let start = usize::try_from(target.address.checked_sub(record.logical_start)?).ok()?;
+    let end = start.checked_add(usize::try_from(target.length).ok()?)?;
+    area.get(start..end).filter(|bytes| !bytes.is_empty())
+}
+
+fn unit(operation: Operation, sub_area: &SubArea) -> u64 {
+    u64::from(match operation {
+        Operation::Erase => sub_area.sector,
+        Operation::Write => sub_area.page,
+        Operation::Read | Operation::Compare | Operation::BlankCheck => sub_area.smallest_read,
+    })
+}
+
+/// Sub-areas start at multiples of their sectors, so the offset is as even as the physical address.
+fn job_number(plan: &Plan, bytes: Option<&[Byte]>, operation: Operation, window: u32) -> u8 {
+    let Some(bytes) = bytes else {
+        return 12;
+    };
+    let (first, last) = (bytes[0], bytes[bytes.len() - 1]);
+    let unit_of = |byte: Byte| unit(operation, &plan.sub_areas[byte.sub_area]);
+    if first.physical % unit_of(first) != 0 || (last.physical + 1) % unit_of(last) != 0 {
+        return 13;
+    }
+    let uses_window = [1, 2, 3].contains(&operation.number());
+    if uses_window && u64::try_from(bytes.len()).expect("short") > u64::from(window) {
+        return 14;
+    }
+    0
+}
+
+fn lock_number(plan: &Plan, bytes: Option<&[Byte]>) -> u8 {
+    let device = |byte: &Byte| plan.sub_areas[byte.sub_area].device;
+    match bytes {
+        None => 12,
+        Some(bytes) if bytes.iter().any(|byte| device(byte) != device(&bytes[0])) => 15,
+        Some(_) => 0,
+    }
+}
+
+/// Every range from two bytes before the area to two behind it, as far as addresses go.
+fn targets(plan: &Plan, area: usize) -> Vec<Target> {
+    let start = plan.areas[area].logical_start;
+    let size = u32::try_from(plan.area_size(area)).expect("a small area");
+    let addresses = start.saturating_sub(2)..=(start + size).saturating_add(2);
+    let area = u32::try_from(area).expect("a known area");
+    let lengths = || (0..=size + 3).chain([u32::MAX - 1, u32::MAX]);
+    let ranges = addresses.flat_map(|address| lengths().map(move |length| (address, length)));
+    ranges.map(|(address, length)| Target { area, address, length }).collect()
+}
+
+/// Checks all jobs and the lock of a range, and counts the numbers they give.
+fn check(plan: &Plan, area: &[Byte], target: Target, counts: &mut [u32; 16]) {
+    let bytes = range_bytes(plan, area, target);
+    let number = usize::try_from(target.area).expect("a known area");
+    for operation in Operation::ALL {
+        let owed = job_number(plan, bytes, operation, plan.areas[number].window_length);
+        let given = admission::job(plan, &AllIdle, operation, target).err().unwrap_or(0);
+        assert_eq!(given, owed, "{operation:?} {target:?} {plan:?}");
+        counts[usize::from(given)] += 1;
+        if let (0, Some(bytes)) = (given, bytes) {
+            let range: Range<u64> = target.addresses();
+            let given: Vec<_> = pieces(plan, operation, number, range).collect();
+            assert_eq!(given, cut(plan, operation, bytes), "{operation:?} {target:?} {plan:?}");
+        }
+    }
+    let owed = lock_number(plan, bytes);
+    let given = admission::lock(plan, &AllIdle, target).err().unwrap_or(0);
+    assert_eq!(given, owed, "lock {target:?} {plan:?}");
+    counts[usize::from(given)] += 1;
+}
+
+#[test]
+fn every_range_of_small_plans() {
+    let mut random = Random::new(41);
+    let mut plans = vec![plan_t()];
+    plans.extend((0..150).map(|_| small(&mut random)));
+    let mut counts = [0; 16];
+    for plan in &plans {
+        for area in 0..plan.areas.len() {
+            let bytes = area_bytes(plan, area);
+            for target in targets(plan, area) {
+                check(plan, &bytes, target, &mut counts);
+            }
+        }
+    }
+    println!("numbers 0 to 15: {counts:?}");
+    for number in [0, 12, 13, 14, 15] {
+        assert!(counts[number] >= 10_000, "number {number}: only {}", counts[number]);
+    }
+}
