@@ -4,7 +4,7 @@
 //! Question 9 refuses no state that an accepted load reaches, and there is no other here.
 
 use crate::jobs::{Operation, Target};
-use crate::plan::{Area, Plan};
+use crate::plan::Plan;
 use crate::segments;
 use std::ops::Range;
 
@@ -72,11 +72,6 @@ pub fn round(plan: &Plan, image_length: usize, store_length: usize) -> Result<()
     ask(19, store_length >= furthest_window_end(plan))
 }
 
-/// Any query. Gives the area.
-pub fn query(plan: &Plan, area: u32) -> Result<usize, Refusal> {
-    known_area(plan, area)
-}
-
 /// "memory info with length 1". Gives the area.
 pub fn memory_info(plan: &Plan, area: u32, address: u32) -> Result<usize, Refusal> {
     let number = known_area(plan, area)?;
@@ -86,7 +81,7 @@ pub fn memory_info(plan: &Plan, area: u32, address: u32) -> Result<usize, Refusa
 
 /// Windows of length 0 count as well: they end at their start.
 pub fn furthest_window_end(plan: &Plan) -> usize {
-    plan.areas.iter().map(|area| segments::index(Area::window(area).end)).max().unwrap_or(0)
+    plan.areas.iter().map(|area| segments::index(area.window().end)).max().unwrap_or(0)
 }
 
 fn ask(number: Refusal, answer: bool) -> Result<(), Refusal> {
@@ -97,8 +92,8 @@ fn ask(number: Refusal, answer: bool) -> Result<(), Refusal> {
     }
 }
 
-/// Question 10: "Is the area known?"
-fn known_area(plan: &Plan, area: u32) -> Result<usize, Refusal> {
+/// Question 10: "Is the area known?" All that is asked of the queries but memory info.
+pub fn known_area(plan: &Plan, area: u32) -> Result<usize, Refusal> {
     usize::try_from(area).ok().filter(|area| *area < plan.areas.len()).ok_or(10)
 }
 

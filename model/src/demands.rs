@@ -15,7 +15,6 @@ use crate::jobs::{Answer, JobResult};
 use crate::manager::{DeviceState, JobInfo, Manager, RequestInfo, Waits};
 use crate::plan::Plan;
 use crate::plans::encode;
-use crate::segments::Piece;
 use crate::sessions::{Memory, Step};
 use crate::wait_book::{Entry, Fate, Finished, Numbers, Outcome, Station, Task, WaitBook, Work};
 
@@ -112,16 +111,15 @@ impl Trial {
 
     /// Questions 10 and, for memory info, 12.
     fn query_number(&self, query: Query, area: u32) -> u8 {
-        let Some(record) = self.plan.areas.iter().zip(0..).find(|(_, number)| *number == area)
-        else {
+        let index = usize::try_from(area).unwrap_or(usize::MAX);
+        let Some(record) = self.plan.areas.get(index) else {
             return 10;
         };
         let Query::MemoryInfo(address) = query else {
             return 0;
         };
-        let offset = address.checked_sub(record.0.logical_start).map(u128::from);
-        let size = self.plan.area_size(usize::try_from(area).expect("a known area"));
-        if offset.is_some_and(|offset| offset < size) {
+        let offset = address.checked_sub(record.logical_start).map(u128::from);
+        if offset.is_some_and(|offset| offset < self.plan.area_size(index)) {
             0
         } else {
             12
@@ -215,19 +213,17 @@ impl Trial {
 
     /// The request fields that the book gives an area.
     fn running(&self, wanted: u32) -> RequestInfo {
-        let narrow = |number: u64| u32::try_from(number).expect("small numbers");
-        let devices = 0..u32::try_from(self.plan.devices.len()).expect("at most 4 devices");
-        let stations = devices.zip(0..).map(|(device, index)| (device, self.book.station(index)));
-        let request = stations.into_iter().find_map(|(device, station)| match station {
-            Station::Runs { area, piece: Piece { start, length, .. }, polls }
-                if u32::try_from(area) == Ok(wanted) =>
-            {
-                let (physical_address, length) = (narrow(start), narrow(length));
-                Some(RequestInfo { device, physical_address, length, polls: narrow(polls) })
+        let narrow = |number: u64| u32::try_from(number).expect("inside the image");
+        for (index, device) in (0..self.plan.devices.len()).zip(0..) {
+            let Station::Runs { area, piece, polls } = self.book.station(index) else {
+                continue;
+            };
+            if u32::try_from(area) == Ok(wanted) {
+                let (physical_address, length) = (narrow(piece.start), narrow(piece.length));
+                return RequestInfo { device, physical_address, length, polls: narrow(polls) };
             }
-            _ => None,
-        });
-        request.unwrap_or_default()
+        }
+        RequestInfo::default()
     }
 
     /// Demand 2: the result is that of the rules; the requests answered done, joined in order, are

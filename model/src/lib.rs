@@ -4,10 +4,24 @@
 //! can be held against their sentences. It shares no code with the proved library; with feature
 //! `proved` the tests run both on the same inputs and compare every field of the answers.
 //!
+//! The rules:
+//!
 //! - [`plan`]: the records of a plan, and loading (questions 1 to 8);
-//! - [`plans`]: making plans, valid and wounded ones, from records to bytes;
+//! - [`jobs`]: job types, results, ranges and answers, the terms of the calls;
+//! - [`segments`]: the mapping and the cutting of jobs into pieces;
+//! - [`admission`]: the questions asked of calls (10 to 19);
+//! - [`manager`]: jobs, locks, releases, cancels, rounds and queries;
+//! - [`wait_book`]: the definition that the counts of demand 3 are held against;
+//! - [`session`]: the bench program of the printed session.
+//!
+//! What tries them:
+//!
+//! - [`calls`]: calls as values;
+//! - [`demands`]: the three demands, checked after every call;
+//! - [`plans`]: making plans, valid, small and wounded ones, from records to bytes;
+//! - [`sessions`]: making lists of calls and lines of sessions;
 //! - [`named`]: the table of plans whose number follows from the paper by hand;
-//! - [`random`]: the deterministic generator behind all random plans;
+//! - [`random`]: the deterministic generator behind everything random;
 //! - [`histogram`]: how often each number came up;
 //! - `proved`: the proved library, called through its C interface (feature `proved`).
 

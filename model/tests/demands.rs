@@ -52,7 +52,11 @@ fn runs(seed: u64, plans: u32, plan: fn(&mut Random) -> Plan) -> Tally {
         run(&mut trial(&mut random, &plan), &steps, &mut tally, &name);
     }
     let seconds = start.elapsed().as_secs_f64();
-    println!("seed {seed}, {plans} plans, {seconds:.1} seconds\n{tally}\n");
+    let per_second = |count: u64| count as f64 / seconds;
+    let (calls, rounds) = (per_second(tally.calls), per_second(tally.rounds));
+    println!(
+        "seed {seed}, {plans} plans, per second {calls:.0} calls, {rounds:.0} rounds\n{tally}\n"
+    );
     tally
 }
 
@@ -63,11 +67,9 @@ fn assert_tried(tally: &Tally, often: u64) {
         let count = tally.numbers.count(number);
         assert!(count >= often, "number {number}: only {count}");
     }
-    for ending in [1, 2, 3, 4, 6]
-        .into_iter()
-        .flat_map(|job_type| [0, 1, 3].map(|r| (job_type, r)))
-        .chain([(3, 2), (6, 2), (7, 0), (7, 3)])
-    {
+    let jobs = [1, 2, 3, 4, 6].into_iter();
+    let endings = jobs.flat_map(|job_type| [0, 1, 3].map(|result| (job_type, result)));
+    for ending in endings.chain([(3, 2), (6, 2), (7, 0), (7, 3)]) {
         let count = tally.endings.get(&ending).copied().unwrap_or(0);
         assert!(count >= often, "type and result {ending:?}: only {count}");
     }

@@ -867,11 +867,11 @@ fn queries_of_unknown_areas_give_10() {
     }
 }
 
-#[test]
-fn memory_info_is_that_of_the_sub_area() {
+/// Plan T with a second sub-area of area 1, every size of which is another.
+fn unlike_sizes() -> Plan {
     let mut plan = plan_t();
     plan.devices.push(Device { start: 64, length: 64, patience: 1 });
-    let second = SubArea {
+    plan.sub_areas.push(SubArea {
         area: 1,
         device: 1,
         start: 80,
@@ -883,10 +883,14 @@ fn memory_info_is_that_of_the_sub_area() {
         largest_read: 6,
         sector_count: 3,
         write_retries: 9,
-        erase_retries: 8,
-    };
-    plan.sub_areas.push(second);
-    let manager = Manager::load(&encode(&plan)).expect("an accepted plan");
+        erase_retries: 7,
+    });
+    plan
+}
+
+#[test]
+fn memory_info_is_that_of_the_sub_area() {
+    let manager = Manager::load(&encode(&unlike_sizes())).expect("an accepted plan");
     let info = MemoryInfo {
         logical_start_address: 288,
         physical_start_address: 80,

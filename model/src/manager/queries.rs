@@ -68,23 +68,23 @@ impl From<&Request> for RequestInfo {
 impl Manager {
     /// 0 idle, 1 pending (000, 8.2.6).
     pub fn status(&self, area: u32) -> Result<u8, u8> {
-        let area = admission::query(&self.plan, area)?;
+        let area = admission::known_area(&self.plan, area)?;
         Ok(u8::from(self.areas[area].is_pending))
     }
 
     /// Of a pending job, the result of the one before.
     pub fn result(&self, area: u32) -> Result<u8, u8> {
-        let area = admission::query(&self.plan, area)?;
+        let area = admission::known_area(&self.plan, area)?;
         Ok(self.areas[area].result.number())
     }
 
     pub fn processed(&self, area: u32) -> Result<u32, u8> {
-        let area = admission::query(&self.plan, area)?;
+        let area = admission::known_area(&self.plan, area)?;
         Ok(narrow(self.areas[area].processed))
     }
 
     pub fn job_info(&self, area: u32) -> Result<JobInfo, u8> {
-        let area = admission::query(&self.plan, area)?;
+        let area = admission::known_area(&self.plan, area)?;
         let state = &self.areas[area];
         let request = self.running_request(area);
         Ok(JobInfo {

@@ -167,11 +167,14 @@ impl WaitBook {
     /// The area that an unlocked device with nothing running starts something for: of those that
     /// need it the first in the order of ranks.
     fn pick(&self, device: usize) -> Option<usize> {
-        let is_open = self.stations[device] == Station::Nothing;
-        let areas = (0..self.entries.len()).filter(|_| is_open);
-        areas
-            .filter(|area| self.entries[*area].needs() == Some(device))
-            .min_by_key(|area| rank(&self.plan, *area))
+        let needs_it = |area: &usize| self.entries[*area].needs() == Some(device);
+        match self.stations[device] {
+            Station::Nothing => {
+                let areas = (0..self.entries.len()).filter(needs_it);
+                areas.min_by_key(|area| rank(&self.plan, *area))
+            }
+            Station::Runs { .. } | Station::LockedFor(_) => None,
+        }
     }
 
     /// "Each job still pending adds 1 to own if its request runs; else, if another area's request
