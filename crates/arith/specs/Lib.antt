@@ -4,4 +4,5 @@ pub mod Multiples
 pub mod Products
 pub mod Plain
 pub mod Tables
+pub mod Parts
 pub mod FirstNo

@@ -22,12 +22,12 @@ use Rattle.interface.specs.declared.LoadView.{LoadView}
 abbrev pub jobView : Job → JobView
 jobView j =
     record {
-      kind = jobTypeNumber (j .kind);
+      kind = jobTypeNumber (j .task .kind);
       status = statusNumber (j .status);
       result = j .result;
       «retries_left» = j .«retries_left»;
-      address = j .address;
-      length = j .length;
+      address = j .task .address;
+      length = j .task .length;
       processed = j .processed;
     }
 

@@ -49,17 +49,18 @@ impl JobView {
     fn of(job: Job) -> JobView
         ensures { λ r. ⌜ r ≡ jobView job ⌝ }
     {
-        let kind = job.kind;
+        let task = job.task;
+        let kind = task.kind;
         let status = job.status;
         let result = job.result;
-        let address = job.address;
+        let address = task.address;
         JobView {
             kind: kind.number(),
             status: status.number(),
             result,
             retries_left: job.retries_left,
             address,
-            length: job.length,
+            length: task.length,
             processed: job.processed,
         }
     }

@@ -6,9 +6,10 @@ ghost use Rattle.memory.specs.Numbers.{jobTypeNumber, statusNumber, refu
 #[repr(C)]
 pub struct LogicalAddress(pub u32);
 
-// A physical address: byte p of the image (000: Mem_AddressType).
+// A physical address: byte p of the image (000: Mem_AddressType). It is wider than a plan's numbers, so that a start and an
+// offset always add up.
 #[repr(C)]
-pub struct MemAddress(pub u32);
+pub struct MemAddress(pub u64);
 
 // 000: MemAcc_JobType. Number 5, the hardware specific services, is left out.
 pub enum JobType {
@@ -35,6 +36,20 @@ impl JobType {
             JobType::Lock => 7,
         }
     }
+}
+
+// What a job asks for: its type and its range in the area's logical space.
+pub struct Task {
+    pub kind: JobType,
+    pub address: LogicalAddress,
+    pub length: u32,
+}
+
+// A device's answer in a round: its request goes on, is done, or failed after some bytes.
+pub enum DeviceAnswer {
+    Pending,
+    Done,
+    Failed(u32),
 }
 
 // 000: MemAcc_JobStatusType. A job that was cancelled while its request ran is pending until that request ends.

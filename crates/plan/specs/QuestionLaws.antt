@@ -15,9 +15,9 @@ use Rattle.plan.specs.declared.records.DeviceRecord.{DeviceRecord}
 use Rattle.plan.specs.declared.records.Granularity.{Granularity}
 
 -- question 3: the first device at 0 and each next where the last ended are each where it is due
-pub start-due : (l : List DeviceRecord) (n : ℕ) → deviceOf l 0 .start .0 ≡ 0 →
-    ((i : ℕ) → i + 1 < n → deviceOf l (i + 1) .start .0 ≡ deviceEnd (deviceOf l i)) →
-    (i : ℕ) → i < n → deviceOf l i .start .0 ≡ deviceDue l i
+pub start-due : (l : List DeviceRecord) (n : ℕ) → deviceOf l 0 .start ≡ 0 →
+    ((i : ℕ) → i + 1 < n → deviceOf l (i + 1) .start ≡ deviceEnd (deviceOf l i)) →
+    (i : ℕ) → i < n → deviceOf l i .start ≡ deviceDue l i
 unfolding deviceDue
 start-due l n first next zero h = first
 start-due l n first next (suc i) h = rw add-one at (next i (omega arith))

@@ -43,14 +43,14 @@ countsFit devices areas subAreas = within 4 devices && (within 8 areas && within
 -- 3. "Devices: the first starts at 0, each next where the last ended, lengths and patience at least 1,
 -- the sum of lengths at most 16,777,216?"
 abbrev pub deviceEnd : DeviceRecord → ℕ
-deviceEnd d = d .start .0 + d .length
+deviceEnd d = d .start + d .length
 
 unfoldable pub deviceDue : List DeviceRecord → ℕ → ℕ
 deviceDue l zero = 0
 deviceDue l (suc i) = deviceEnd (deviceOf l i)
 
 unfoldable pub deviceJoins : ℕ → DeviceRecord → Bool
-deviceJoins due d = eqb (d .start .0) due && (leb 1 (d .length) && leb 1 (d .«poll_limit»))
+deviceJoins due d = eqb (d .start) due && (leb 1 (d .length) && leb 1 (d .«poll_limit»))
 
 abbrev pub lengthSum : List DeviceRecord → ℕ → ℕ
 lengthSum l n = sum (λ i. deviceOf l i .length) n
@@ -91,16 +91,16 @@ abbrev pub sizeOf : SubAreaRecord → ℕ
 sizeOf s = s .erase .unit * s .«sector_count»
 
 abbrev pub endOf : SubAreaRecord → ℕ
-endOf s = s .start .0 + sizeOf s
+endOf s = s .start + sizeOf s
 
 unfoldable pub insideDevice : SubAreaRecord → DeviceRecord → Bool
-insideDevice s d = leb (d .start .0) (s .start .0) && leb (endOf s) (deviceEnd d)
+insideDevice s d = leb (d .start) (s .start) && leb (endOf s) (deviceEnd d)
 
 unfoldable pub isPlaced : List DeviceRecord → ℕ → ℕ → SubAreaRecord → Bool
 isPlaced devices deviceCount areaCount s =
     ltb (s .area) areaCount
     && (ltb (s .device) deviceCount
-    && (multiple (s .erase .unit) (s .start .0)
+    && (multiple (s .erase .unit) (s .start)
     && insideDevice s (deviceOf devices (s .device))))
 
 unfoldable pub allPlaced : Plan → Bool
@@ -133,7 +133,7 @@ spacesFit p =
 
 -- 8. "No byte in two sub-areas?"
 unfoldable pub subAreasApart : SubAreaRecord → SubAreaRecord → Bool
-subAreasApart s t = apart (s .start .0) (sizeOf s) (t .start .0) (sizeOf t)
+subAreasApart s t = apart (s .start) (sizeOf s) (t .start) (sizeOf t)
 
 abbrev pub allApart : List SubAreaRecord → ℕ → Bool
 allApart l n = everyPair (λ i j. subAreasApart (subAreaOf l i) (subAreaOf l j)) n

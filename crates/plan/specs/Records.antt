@@ -7,8 +7,6 @@ use lib.ListN.{length, getD, replicate}
 use Rattle.arith.specs.Cases.{pick}
 use Rattle.arith.specs.Tables.{table}
 use Rattle.plan.specs.Number.{numberAt}
-use Rattle.memory.specs.declared.LogicalAddress.{LogicalAddress}
-use Rattle.memory.specs.declared.MemAddress.{MemAddress}
 use Rattle.plan.specs.declared.records.DeviceRecord.{DeviceRecord}
 use Rattle.plan.specs.declared.records.Window.{Window}
 use Rattle.plan.specs.declared.records.AreaRecord.{AreaRecord}
@@ -20,7 +18,7 @@ use Rattle.plan.specs.declared.scan.RecordFormat.{RecordFormat}
 
 -- "Device, mark hex 44 56: physical start 4, length 4, patience 2."
 unfoldable pub deviceAt : List ℕ → ℕ → DeviceRecord
-deviceAt l at = record { start = record { 0 = numberAt 4 l (at + 2) }; length = numberAt 4 l (at + 6); «poll_limit» = numberAt 2 l (at + 10) }
+deviceAt l at = record { start = numberAt 4 l (at + 2); length = numberAt 4 l (at + 6); «poll_limit» = numberAt 2 l (at + 10) }
 
 -- "Area, mark hex 41 52: priority 2, logical start 4, window start 4, window length 4."
 unfoldable pub areaAt : List ℕ → ℕ → AreaRecord
@@ -41,7 +39,7 @@ subAreaAt l at =
     record {
       area = numberAt 1 l (at + 2);
       device = numberAt 1 l (at + 3);
-      start = record { 0 = numberAt 4 l (at + 4) };
+      start = numberAt 4 l (at + 4);
       erase = granularityAt l (at + 8);
       write = granularityAt l (at + 16);
       read = granularityAt l (at + 24);
@@ -52,7 +50,7 @@ subAreaAt l at =
 
 -- the records of all zeros: what an entry holds that is not in use
 abbrev pub noDevice : DeviceRecord
-noDevice = record { start = record { 0 = 0 }; length = 0; «poll_limit» = 0 }
+noDevice = record { start = 0; length = 0; «poll_limit» = 0 }
 
 abbrev pub noArea : AreaRecord
 noArea = record { priority = 0; start = record { 0 = 0 }; window = record { start = 0; length = 0 } }
@@ -65,7 +63,7 @@ noSubArea =
     record {
       area = 0;
       device = 0;
-      start = record { 0 = 0 };
+      start = 0;
       erase = noGranularity;
       write = noGranularity;
       read = noGranularity;

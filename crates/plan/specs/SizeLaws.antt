@@ -7,9 +7,8 @@ use native.Mathlib.Omega.{arith}
 use native.Mathlib.Numerals.{add-one}
 use Rattle.arith.specs.Bounded.{sum, sum-more, sum-mono}
 use Rattle.arith.specs.Plain.{plain}
-use Rattle.arith.specs.Cases.{and-elim, by-bool}
-use Rattle.plan.specs.Questions.{countsFit, devicesJoin, deviceJoins, allPlaced, isPlaced, insideDevice, sizesFit, deviceOf, deviceEnd, deviceDue, lengthSum, subAreaOf, sizeOf, isOf, sizeIn, areaSize}
-use Rattle.plan.specs.QuestionLaws.{granular}
+use Rattle.arith.specs.Cases.{by-bool}
+use Rattle.plan.specs.Questions.{countsFit, devicesJoin, deviceJoins, allPlaced, isPlaced, insideDevice, deviceOf, deviceEnd, deviceDue, lengthSum, subAreaOf, sizeOf, isOf, sizeIn, areaSize}
 use Rattle.plan.specs.declared.records.DeviceRecord.{DeviceRecord}
 use Rattle.plan.specs.declared.records.Plan.{Plan}
 use Rattle.plan.specs.declared.records.SubAreaRecord.{SubAreaRecord}
@@ -27,11 +26,6 @@ due-more l i = rw add-one
 pub length-more : (l : List DeviceRecord) (i : ℕ) → lengthSum l (i + 1) ≡ lengthSum l i + deviceOf l i .length
 length-more l i = sum-more (λ k. deviceOf l k .length) i
 
--- a sub-area whose sizes fit has a sector to divide by
-pub sector-some : (s : SubAreaRecord) → sizesFit s ≡ true → 1 ≤ s .erase .unit
-unfolding sizesFit
-sector-some s e = granular (s .erase) .0 (and-elim _ _ e .0) .unit-some
-
 -- a record adds no more to an area than its bytes
 pub size-in-few : (a : ℕ) (s : SubAreaRecord) → sizeOf s ≤ 16777216 → sizeIn a s ≤ 16777216
 unfolding sizeIn
@@ -42,7 +36,7 @@ size-more l a i = sum-more (λ k. sizeIn a (subAreaOf l k)) i
 
 -- devices that join: each starts where the lengths before it add up to, and ends within the limit
 module _ (l : List DeviceRecord) (n : ℕ) (e : devicesJoin l n ≡ true) where
-  joined : ((i : ℕ) → i < n → deviceOf l i .start .0 ≡ deviceDue l i) × (lengthSum l n ≤ 16777216)
+  joined : ((i : ℕ) → i < n → deviceOf l i .start ≡ deviceDue l i) × (lengthSum l n ≤ 16777216)
   unfolding devicesJoin deviceJoins
   joined = let facts = simp plain at e in ((λ i h. facts .0 i h .0), facts .1)
 

@@ -27,8 +27,8 @@ pub record WellFormed (p : Plan) : Type 0 where
   pub sub-area-some : 1 ≤ p .«sub_area_count»
   pub sub-area-most : p .«sub_area_count» ≤ 32
   -- devices stand one behind the other from 0 on
-  pub first-start : deviceOf (p .devices) 0 .start .0 ≡ 0
-  pub next-start : (i : ℕ) → i + 1 < p .«device_count» → deviceOf (p .devices) (i + 1) .start .0 ≡ deviceEnd (deviceOf (p .devices) i)
+  pub first-start : deviceOf (p .devices) 0 .start ≡ 0
+  pub next-start : (i : ℕ) → i + 1 < p .«device_count» → deviceOf (p .devices) (i + 1) .start ≡ deviceEnd (deviceOf (p .devices) i)
   pub length-some : (i : ℕ) → i < p .«device_count» → 1 ≤ deviceOf (p .devices) i .length
   pub poll-limit-some : (i : ℕ) → i < p .«device_count» → 1 ≤ deviceOf (p .devices) i .«poll_limit»
   pub length-sum : lengthSum (p .devices) (p .«device_count») ≤ 16777216
@@ -47,9 +47,9 @@ pub record WellFormed (p : Plan) : Type 0 where
   -- places
   pub area-known : (i : ℕ) → i < p .«sub_area_count» → subAreaOf (p .«sub_areas») i .area < p .«area_count»
   pub device-known : (i : ℕ) → i < p .«sub_area_count» → subAreaOf (p .«sub_areas») i .device < p .«device_count»
-  pub start-aligned : (i : ℕ) → i < p .«sub_area_count» → subAreaOf (p .«sub_areas») i .erase .unit ∣ subAreaOf (p .«sub_areas») i .start .0
+  pub start-aligned : (i : ℕ) → i < p .«sub_area_count» → subAreaOf (p .«sub_areas») i .erase .unit ∣ subAreaOf (p .«sub_areas») i .start
   pub after-device-start : (i : ℕ) → i < p .«sub_area_count» →
-      deviceOf (p .devices) (subAreaOf (p .«sub_areas») i .device) .start .0 ≤ subAreaOf (p .«sub_areas») i .start .0
+      deviceOf (p .devices) (subAreaOf (p .«sub_areas») i .device) .start ≤ subAreaOf (p .«sub_areas») i .start
   pub before-device-end : (i : ℕ) → i < p .«sub_area_count» →
       endOf (subAreaOf (p .«sub_areas») i) ≤ deviceEnd (deviceOf (p .devices) (subAreaOf (p .«sub_areas») i .device))
   -- logical spaces
@@ -59,5 +59,5 @@ pub record WellFormed (p : Plan) : Type 0 where
       areaOf (p .areas) a .start .0 + areaSize (p .«sub_areas») (p .«sub_area_count») a ≤ 4294967295
   -- no byte in two sub-areas
   pub bytes-apart : (i j : ℕ) → i < p .«sub_area_count» → j < p .«sub_area_count» → (i ≡ j → ⊥) → (x : ℕ) →
-      Among (subAreaOf (p .«sub_areas») i .start .0) (sizeOf (subAreaOf (p .«sub_areas») i)) x →
-      Among (subAreaOf (p .«sub_areas») j .start .0) (sizeOf (subAreaOf (p .«sub_areas») j)) x → ⊥
+      Among (subAreaOf (p .«sub_areas») i .start) (sizeOf (subAreaOf (p .«sub_areas») i)) x →
+      Among (subAreaOf (p .«sub_areas») j .start) (sizeOf (subAreaOf (p .«sub_areas») j)) x → ⊥

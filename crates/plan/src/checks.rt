@@ -52,14 +52,14 @@ impl DeviceRecord {
     pub fn end(self) -> u64
         ensures { λ r. ⌜ r ≡ deviceEnd self ⌝ }
     {
-        (self.start.0 as u64) + (self.length as u64)
+        (self.start as u64) + (self.length as u64)
     }
 
     // Does it start where it is due, and has it a length and a poll limit?
     pub fn joins(self, due: u64) -> bool
         ensures { λ r. ⌜ r ≡ deviceJoins due self ⌝ }
     {
-        if self.start.0 as u64 != due {
+        if self.start as u64 != due {
             return false;
         }
         if self.length < 1 {
@@ -104,7 +104,7 @@ impl Granularity {
         if self.burst < 1 {
             return false;
         }
-        is_multiple(self.unit, self.burst)
+        is_multiple(self.unit as u64, self.burst as u64)
     }
 }
 
@@ -118,7 +118,7 @@ impl SubAreaRecord {
     pub fn end(self) -> u64
         ensures { λ r. ⌜ r ≡ endOf self ⌝ }
     {
-        (self.start.0 as u64) + self.size()
+        (self.start as u64) + self.size()
     }
 
     pub fn sizes_fit(self) -> bool
@@ -139,16 +139,16 @@ impl SubAreaRecord {
         if self.sector_count < 1 {
             return false;
         }
-        if !is_multiple(write.unit, erase.unit) {
+        if !is_multiple(write.unit as u64, erase.unit as u64) {
             return false;
         }
-        is_multiple(read.unit, erase.unit)
+        is_multiple(read.unit as u64, erase.unit as u64)
     }
 
     fn is_inside(self, device: DeviceRecord) -> bool
         ensures { λ r. ⌜ r ≡ insideDevice self device ⌝ }
     {
-        if self.start.0 < device.start.0 {
+        if self.start < device.start {
             return false;
         }
         self.end() <= device.end()
@@ -160,7 +160,7 @@ impl SubAreaRecord {
         device_count: usize,
         area_count: usize,
     ) -> bool
-        requires { ⌜ («device_count» ≤ 4) × (1 ≤ self .erase .unit) ⌝ }
+        requires { ⌜ «device_count» ≤ 4 ⌝ }
         ensures { λ r. ⌜ r ≡ isPlaced devices «device_count» «area_count» self ⌝ }
     {
         if area_count <= self.area as usize {
@@ -170,7 +170,7 @@ impl SubAreaRecord {
         if device_count <= device {
             return false;
         }
-        if !is_multiple(self.erase.unit, self.start.0) {
+        if !is_multiple(self.erase.unit as u64, self.start as u64) {
             return false;
         }
         self.is_inside(devices[device])
@@ -180,9 +180,9 @@ impl SubAreaRecord {
         ensures { λ r. ⌜ r ≡ subAreasApart self other ⌝ }
     {
         are_apart(
-            self.start.0 as u64,
+            self.start as u64,
             self.size(),
-            other.start.0 as u64,
+            other.start as u64,
             other.size(),
         )
     }

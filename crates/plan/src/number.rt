@@ -46,10 +46,12 @@ pub fn u32_at(bytes: &[u8], at: usize) -> u32
     number_at(bytes, at, 4) as u32
 }
 
-// Is n a multiple of the size?
-pub fn is_multiple(size: u32, n: u32) -> bool
-    requires { ⌜ 1 ≤ size ⌝ }
+// Is n a multiple of the size? (0 alone is one of 0.)
+pub fn is_multiple(size: u64, n: u64) -> bool
     ensures { λ r. ⌜ r ≡ multiple size n ⌝ }
 {
+    if size == 0 {
+        return n == 0;
+    }
     n % size == 0
 }

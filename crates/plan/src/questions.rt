@@ -115,7 +115,7 @@ fn all_placed(
     device_count: usize,
     area_count: usize,
 ) -> bool
-    requires { ⌜ (count ≤ 32) × («device_count» ≤ 4) × (allSizesFit «sub_areas» count ≡ true) ⌝ }
+    requires { ⌜ (count ≤ 32) × («device_count» ≤ 4) ⌝ }
     ensures { λ r. ⌜ r ≡ every (λ i. isPlaced devices «device_count» «area_count» (subAreaOf «sub_areas» i)) count ⌝ }
 {
     let mut i = 0;
@@ -257,7 +257,7 @@ pub fn all_apart(sub_areas: [SubAreaRecord; 32], count: usize) -> bool
 impl Plan {
     // Question 6.
     fn places_fit(self) -> bool
-        requires { ⌜ (self .«device_count» ≤ 4) × (self .«sub_area_count» ≤ 32) × (allSizesFit (self .«sub_areas») (self .«sub_area_count») ≡ true) ⌝ }
+        requires { ⌜ (self .«device_count» ≤ 4) × (self .«sub_area_count» ≤ 32) ⌝ }
         ensures { λ r. ⌜ r ≡ allPlaced self ⌝ }
     {
         let sub_areas = self.sub_areas;

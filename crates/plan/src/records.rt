@@ -9,12 +9,11 @@ use crate::number::u16_at;
 use crate::number::u32_at;
 use crate::scan::RecordLayout;
 use memory::LogicalAddress;
-use memory::MemAddress;
 
 // Document 01: a device record. `poll_limit` is its patience.
 #[repr(C)]
 pub struct DeviceRecord {
-    pub start: MemAddress,
+    pub start: u32,
     pub length: u32,
     pub poll_limit: u16,
 }
@@ -45,7 +44,7 @@ pub struct Granularity {
 pub struct SubAreaRecord {
     pub area: u8,
     pub device: u8,
-    pub start: MemAddress,
+    pub start: u32,
     pub erase: Granularity,
     pub write: Granularity,
     pub read: Granularity,
@@ -70,7 +69,7 @@ impl DeviceRecord {
         ensures { λ r. ⌜ r ≡ noDevice ⌝ }
     {
         DeviceRecord {
-            start: MemAddress(0),
+            start: 0,
             length: 0,
             poll_limit: 0,
         }
@@ -80,7 +79,7 @@ impl DeviceRecord {
         requires { ⌜ at + 12 ≤ length (now bytes) ⌝ }
         ensures { λ r. ⌜ r ≡ deviceAt (now (bytes .entry)) at ⌝ }
     {
-        let start = MemAddress(u32_at(bytes, at + 2));
+        let start = u32_at(bytes, at + 2);
         let length = u32_at(bytes, at + 6);
         let poll_limit = u16_at(bytes, at + 10);
         DeviceRecord {
@@ -148,7 +147,7 @@ impl SubAreaRecord {
         SubAreaRecord {
             area: 0,
             device: 0,
-            start: MemAddress(0),
+            start: 0,
             erase: Granularity::blank(),
             write: Granularity::blank(),
             read: Granularity::blank(),
@@ -164,7 +163,7 @@ impl SubAreaRecord {
     {
         let area = u8_at(bytes, at + 2);
         let device = u8_at(bytes, at + 3);
-        let start = MemAddress(u32_at(bytes, at + 4));
+        let start = u32_at(bytes, at + 4);
         let erase = Granularity::read(bytes, at + 8);
         let write = Granularity::read(bytes, at + 16);
         let read = Granularity::read(bytes, at + 24);

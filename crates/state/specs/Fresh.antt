@@ -10,9 +10,7 @@ use Rattle.state.specs.declared.DeviceState.the-variants.{Free}
 abbrev pub noJob : Job
 noJob =
     record {
-      kind = NoJob;
-      address = record { 0 = 0 };
-      length = 0;
+      task = record { kind = NoJob; address = record { 0 = 0 }; length = 0 };
       processed = 0;
       «retries_left» = 0;
       status = Idle;

@@ -5,12 +5,13 @@ use memory::JobResult;
 use memory::JobStatus;
 use memory::JobType;
 use memory::LogicalAddress;
+use memory::MemAddress;
+use memory::Task;
+use plan::records::Granularity;
 
 // An area's latest job. Its data stay after its end until the next job is accepted.
 pub struct Job {
-    pub kind: JobType,
-    pub address: LogicalAddress,
-    pub length: u32,
+    pub task: Task,
     pub processed: u32,
     pub retries_left: u8,
     pub status: JobStatus,
@@ -42,14 +43,44 @@ pub struct Device {
     pub state: DeviceState,
 }
 
+// The running request of a job; all zeros where none runs. The hardware id is the device number.
+pub struct RequestInfo {
+    pub device: u8,
+    pub start: MemAddress,
+    pub length: u64,
+    pub polls: u16,
+}
+
+// 000: MemAcc_JobInfoType, with the waits.
+pub struct JobInfo {
+    pub task: Task,
+    pub result: JobResult,
+    pub processed: u32,
+    pub waits: Waits,
+    pub request: RequestInfo,
+}
+
+// 000: MemAcc_MemoryInfoType, of the sub-area that holds an address.
+pub struct MemoryInfo {
+    pub logical_start: LogicalAddress,
+    pub physical_start: MemAddress,
+    pub max_offset: u64,
+    pub erase: Granularity,
+    pub write: Granularity,
+    pub read: Granularity,
+    pub device: u8,
+}
+
 impl Job {
     fn none() -> Job
         ensures { λ r. ⌜ r ≡ noJob ⌝ }
     {
         Job {
-            kind: JobType::NoJob,
-            address: LogicalAddress(0),
-            length: 0,
+            task: Task {
+                kind: JobType::NoJob,
+                address: LogicalAddress(0),
+                length: 0,
+            },
             processed: 0,
             retries_left: 0,
             status: JobStatus::Idle,

@@ -1,18 +1,22 @@
-use mathlib.Core.Path.{refl}
+use mathlib.Core.Path.{sym}
+use Rattle.arith.specs.Multiples.{multiple-zero, multiple-is}
 use borrow.Author.Needs.{needs}
 use Rattle.plan.proofs.number.is_multiple.Statement.{statement}
 use Rattle.plan.proofs.number.is_multiple.Tie as tie
 use Rattle.plan.proofs.number.is_multiple.Reads as reads
 use Rattle.plan.proofs.number.is_multiple.Lts as lts
 
--- src/number.rt:54:5
+-- src/number.rt:54:9
+returns : tie.Need-returns
+returns c = sym (multiple-zero _ _ (c .if1 .taken))
+
+-- src/number.rt:56:5
 rem-result : tie.Need-rem-result
 rem-result c = search needs
 
 -- src/number.rt:50:1
-returns : tie.Need-returns
-unfolding Rattle.arith.specs.Multiples.multiple
-returns c = refl
+returns-2 : tie.Need-returns-2
+returns-2 c = sym (multiple-is _ _)
 
 pub is-multiple-spec : {M : Type 1} → statement M
-is-multiple-spec = tie.close (tie.spec rem-result returns)
+is-multiple-spec = tie.close (tie.spec returns rem-result returns-2)

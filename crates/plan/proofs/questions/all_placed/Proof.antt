@@ -1,12 +1,11 @@
-use Rattle.plan.specs.SizeLaws.{sector-some}
 use Prim.Native.Nat.{_+_, _-_, _≤_}
 use mathlib.Core.Bool.{true}
 use mathlib.Core.Path.{_≡_, refl, sym, ap, _∙_}
 use native.Mathlib.Omega.{arith}
 use borrow.Author.Needs.{needs}
 use borrow.Author.Tests.{not-true, not-false}
-use Rattle.arith.specs.Bounded.{every, every-elim, every-fails, every-more}
-use Rattle.plan.specs.Questions.{subAreaOf, isPlaced, sizesFit}
+use Rattle.arith.specs.Bounded.{every, every-fails, every-more}
+use Rattle.plan.specs.Questions.{subAreaOf, isPlaced}
 use Rattle.plan.proofs.questions.all_placed.Statement.{statement}
 use Rattle.plan.proofs.questions.all_placed.Tie as tie
 use Rattle.plan.proofs.questions.all_placed.Reads as reads
@@ -19,44 +18,40 @@ Inv-loop count devices device-count area-count sub-areas i₀ i = (i ≤ count) 
 abbrev μ-loop : tie.MeasureT-loop
 μ-loop count devices device-count area-count sub-areas i₀ i = count - i
 
--- src/questions.rt:117:5
+-- src/questions.rt:122:5
 loop-holds : tie.Need-loop-holds Inv-loop μ-loop
 unfolding every
 loop-holds c = (omega arith, refl)
 
--- src/questions.rt:118:24
+-- src/questions.rt:123:24
 mul-sub-area : tie.Need-mul-sub-area Inv-loop μ-loop
 mul-sub-area c = search needs
 
--- src/questions.rt:118:24
+-- src/questions.rt:123:24
 array-copy-out-sub-area : tie.Need-array-copy-out-sub-area Inv-loop μ-loop
 array-copy-out-sub-area c = search needs
 
--- src/questions.rt:119:13
+-- src/questions.rt:124:13
 is-placed-requires : tie.Need-is-placed-requires Inv-loop μ-loop
-is-placed-requires c κs =
-    let a = c .before .before .before .args in
-    let l = c .before .before .loop in
-    let fits = every-elim (λ k. sizesFit (subAreaOf (a .t1) k)) (a .count) (c .before .before .before .pre .2) (l .i) (omega arith) in
-    (omega arith, sector-some _ fits)
+is-placed-requires c κs = search needs
 
--- src/questions.rt:120:13
+-- src/questions.rt:125:13
 returns : tie.Need-returns Inv-loop μ-loop
 returns c = sym (every-fails _ _ _ (omega arith) (sym (c .before .is-placed .ensures) ∙ not-true (c .before .is-placed .result) (c .if1 .taken)))
 
--- src/questions.rt:122:9
+-- src/questions.rt:127:9
 add-i : tie.Need-add-i Inv-loop μ-loop
 add-i c = search needs
 
--- src/questions.rt:117:5
+-- src/questions.rt:122:5
 loop-less : tie.Need-loop-less Inv-loop μ-loop
 loop-less c = search needs
 
--- src/questions.rt:117:5
+-- src/questions.rt:122:5
 loop-again : tie.Need-loop-again Inv-loop μ-loop
 loop-again c = (omega arith, every-more _ _ (c .before .before .before .before .loop .inv .1) (sym (c .before .is-placed .ensures) ∙ not-false (c .before .is-placed .result) (c .if1 .left)))
 
--- src/questions.rt:106:1
+-- src/questions.rt:111:1
 returns-2 : tie.Need-returns-2 Inv-loop μ-loop
 returns-2 c = sym (ap (every _) (omega arith) ∙ c .before .loop .inv .1)
 

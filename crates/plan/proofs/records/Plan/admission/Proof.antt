@@ -42,9 +42,7 @@ returns-3 c = simp (not-true (c .before .all-sizes-fit .result) (c .if3 .taken),
 
 -- src/questions.rt:305:13
 places-fit-requires : tie.Need-places-fit-requires
-places-fit-requires c κs =
-    let few = counts _ _ _ (c .before .before .before .before .before .before .before .before .before .pre) in
-    (omega arith, omega arith, sym (c .before .all-sizes-fit .ensures) ∙ not-false (c .before .all-sizes-fit .result) (c .if3 .left))
+places-fit-requires c κs = let few = counts _ _ _ (c .before .before .before .before .before .before .before .before .before .pre) in (omega arith, omega arith)
 
 -- src/questions.rt:306:13
 returns-4 : tie.Need-returns-4

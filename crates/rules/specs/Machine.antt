@@ -1,0 +1,209 @@
+-- document 01, "Areas at rest and in work" and "A round": the machine of jobs and devices
+use Prim.Native.Nat.{ℕ, zero, suc, _+_, _-_}
+use mathlib.Core.Bool.{Bool, true, false, _&&_}
+use lib.Dec.{ltb, leb, eqb}
+use Rattle.arith.specs.Cases.{pick}
+use Rattle.arith.specs.Parts.{upd}
+use Rattle.memory.specs.declared.JobStatus.{JobStatus}
+use Rattle.memory.specs.declared.JobStatus.the-variants.{Idle, Pending, Cancelling}
+use Rattle.memory.specs.declared.Task.{Task}
+use Rattle.segment.specs.Segments.{isLock}
+use Rattle.segment.specs.declared.Segment.{Segment}
+use Rattle.state.specs.declared.DeviceState.{DeviceState}
+use Rattle.state.specs.declared.DeviceState.the-variants.{Free, Runs, LockedFor}
+use Rattle.state.specs.declared.Job.{Job}
+use Rattle.rules.specs.Layout.{Layout}
+
+-- what moves: each area's latest job, and what each device does
+pub record Core : Type 0 where
+  pub jobs : ℕ → Job
+  pub devices : ℕ → DeviceState
+
+abbrev pub withDevice : ℕ → DeviceState → Core → Core
+withDevice d x c = record { jobs = c .jobs; devices = upd (c .devices) d x }
+
+abbrev pub withJob : ℕ → Job → Core → Core
+withJob a j c = record { jobs = upd (c .jobs) a j; devices = c .devices }
+
+abbrev pub withBoth : ℕ → Job → ℕ → DeviceState → Core → Core
+withBoth a j d x c = record { jobs = upd (c .jobs) a j; devices = upd (c .devices) d x }
+
+-- a cancelled job whose request still runs is pending: "the area stays pending"
+abbrev pub isPendingStatus : JobStatus → Bool
+isPendingStatus Idle = false
+isPendingStatus Pending = true
+isPendingStatus Cancelling = true
+
+abbrev pub isCancelling : JobStatus → Bool
+isCancelling Idle = false
+isCancelling Pending = false
+isCancelling Cancelling = true
+
+abbrev pub isPending : Job → Bool
+isPending j = isPendingStatus (j .status)
+
+-- the segment that is due; "The device a job needs is that of its first piece not yet done, or of its lock request's range."
+abbrev pub due : Layout → ℕ → Job → Segment
+due p a j = p .segment a (j .task) (j .processed)
+
+abbrev pub need : Layout → ℕ → Job → ℕ
+need p a j = due p a j .device
+
+-- "An accepted job makes its area pending and sets processed length and counts to 0; the old result stands until the job ends."
+abbrev pub begun : Layout → ℕ → Task → Job → Job
+begun p a t j = record { task = t; processed = 0; «retries_left» = p .segment a t 0 .retries; status = Pending; result = j .result }
+
+-- "After the end, the job's data stays readable"
+abbrev pub ended : ℕ → Job → Job
+ended r j = record { task = j .task; processed = j .processed; «retries_left» = j .«retries_left»; status = Idle; result = record { 0 = r } }
+
+abbrev pub cancelled : Job → Job
+cancelled j =
+    record { task = j .task; processed = j .processed; «retries_left» = j .«retries_left»; status = Cancelling; result = j .result }
+
+abbrev pub moved : ℕ → ℕ → Job → Job
+moved x r j = record { task = j .task; processed = x; «retries_left» = r; status = j .status; result = j .result }
+
+-- What a device's answer comes to: its request goes on, is finished, is finished with a byte that differs, or has failed.
+pub data Verdict : Type 0 where
+  goesOn : Verdict
+  finished : Verdict
+  differs : Verdict
+  failed : Verdict
+
+-- "with a retry left the same piece is due again, otherwise the job ends with 1"; cancelled, "the job ends with result 3 and
+-- is not retried". Tests: cancelled? no retry left?
+abbrev pub afterFailed : Bool → Bool → Job → Job
+afterFailed true t j = ended 3 j
+afterFailed false true j = ended 1 j
+afterFailed false false j = moved (j .processed) (j .«retries_left» - 1) j
+
+unfoldable pub jobFailed : Job → Job
+jobFailed j = afterFailed (isCancelling (j .status)) (eqb (j .«retries_left») 0) j
+
+-- "Every other done adds the piece to the processed length; after the last piece the job ends with 0."
+-- Tests: cancelled? nothing left? x is the new processed length, r the retries of the next segment
+abbrev pub afterFinished : Bool → Bool → ℕ → ℕ → Job → Job
+afterFinished true t x r j = ended 3 (moved x (j .«retries_left») j)
+afterFinished false true x r j = ended 0 (moved x (j .«retries_left») j)
+afterFinished false false x r j = moved x r j
+
+unfoldable pub jobFinished : Layout → ℕ → Job → Job
+jobFinished p a j =
+    let x = j .processed + due p a j .length in
+    afterFinished (isCancelling (j .status)) (leb (j .task .length) x) x (p .segment a (j .task) x .retries) j
+
+-- "a differing byte, or one that is not 255, ends the job with result 2". Test: cancelled?
+abbrev pub afterDiffers : Bool → Job → Job
+afterDiffers true j = ended 3 j
+afterDiffers false j = ended 2 j
+
+unfoldable pub jobDiffers : Job → Job
+jobDiffers j = afterDiffers (isCancelling (j .status)) j
+
+-- "First every device with a running request takes its answer. Pending adds 1 to the request's polls; when polls reach the
+-- patience it counts as failed after 0 bytes". Tests: the verdict; are polls below the limit?
+abbrev pub takeRunning : Layout → ℕ → ℕ → ℕ → Verdict → Bool → Core → Core
+takeRunning p d a polls goesOn true c = withDevice d (Runs a (polls + 1)) c
+takeRunning p d a polls goesOn false c = withBoth a (jobFailed (c .jobs a)) d Free c
+takeRunning p d a polls finished t c = withBoth a (jobFinished p a (c .jobs a)) d Free c
+takeRunning p d a polls differs t c = withBoth a (jobDiffers (c .jobs a)) d Free c
+takeRunning p d a polls failed t c = withBoth a (jobFailed (c .jobs a)) d Free c
+
+-- "The answer for a device with nothing running is ignored."
+abbrev pub takeOn : Layout → ℕ → Verdict → DeviceState → Core → Core
+takeOn p d v Free c = c
+takeOn p d v (LockedFor a) c = c
+takeOn p d v (Runs a polls) c = takeRunning p d a polls v (ltb (polls + 1) (p .limit d)) c
+
+unfoldable pub takeAnswer : Layout → ℕ → Verdict → Core → Core
+takeAnswer p d v c = takeOn p d v (c .devices d) c
+
+-- the first half: the devices below n have taken their answers
+unfoldable pub firstHalf : Layout → (ℕ → Verdict) → ℕ → Core → Core
+firstHalf p v zero c = c
+firstHalf p v (suc n) c = takeAnswer p n (v n) (firstHalf p v n c)
+
+-- "Then every unlocked device with nothing running picks the highest ranked area whose next piece lies on it, or whose lock
+-- request names it." An area whose request runs needs the device that runs it, which is not free.
+unfoldable pub ready : Layout → Core → ℕ → ℕ → Bool
+ready p c d a = isPending (c .jobs a) && eqb (need p a (c .jobs a)) d
+
+pub data Choice : Type 0 where
+  nobody : Choice
+  area : ℕ → Choice
+
+abbrev pub better : Layout → ℕ → Choice → Choice
+better p a nobody = area a
+better p a (area b) = pick (p .outranks a b) (area a) (area b)
+
+-- the highest ranked of the areas below n that are ready
+unfoldable pub best : Layout → Core → ℕ → ℕ → Choice
+best p c d zero = nobody
+best p c d (suc a) = pick (ready p c d a) (better p a (best p c d a)) (best p c d a)
+
+-- "A piece becomes the running request with 0 polls. A lock request locks the device for that area and ends with 0."
+abbrev pub startJob : ℕ → ℕ → Bool → Core → Core
+startJob d a true c = withBoth a (ended 0 (c .jobs a)) d (LockedFor a) c
+startJob d a false c = withDevice d (Runs a 0) c
+
+abbrev pub startChoice : ℕ → Choice → Core → Core
+startChoice d nobody c = c
+startChoice d (area a) c = startJob d a (isLock (c .jobs a .task .kind)) c
+
+-- "A locked device starts nothing, also for the holder."
+abbrev pub startOn : Layout → ℕ → DeviceState → Core → Core
+startOn p d Free c = startChoice d (best p c d (p .areas)) c
+startOn p d (LockedFor a) c = c
+startOn p d (Runs a polls) c = c
+
+unfoldable pub start : Layout → ℕ → Core → Core
+start p d c = startOn p d (c .devices d) c
+
+-- the second half: the devices below n have picked
+unfoldable pub secondHalf : Layout → ℕ → Core → Core
+secondHalf p zero c = c
+secondHalf p (suc n) c = start p n (secondHalf p n c)
+
+-- "own (its request runs), above or below (another's request runs on the device it needs, by rank), or locked"
+pub data Wait : Type 0 where
+  own : Wait
+  above : Wait
+  below : Wait
+  locked : Wait
+  none : Wait
+
+unfoldable pub behind : Layout → ℕ → ℕ → Wait
+behind p a b = pick (eqb b a) own (pick (p .outranks b a) above below)
+
+abbrev pub waitOn : Layout → ℕ → DeviceState → Wait
+waitOn p a Free = none
+waitOn p a (LockedFor b) = locked
+waitOn p a (Runs b polls) = behind p a b
+
+-- which wait area a's pending job has
+abbrev pub waitOf : Layout → Core → ℕ → Wait
+waitOf p c a = waitOn p a (c .devices (need p a (c .jobs a)))
+
+abbrev pub isOwn : Wait → Bool
+isOwn own = true
+isOwn above = false
+isOwn below = false
+isOwn locked = false
+isOwn none = false
+
+-- "A cancel ends a job without a running request immediately, result 3. With one running, the area stays pending".
+-- Test: does its request run?
+abbrev pub cancelIf : Bool → ℕ → Core → Core
+cancelIf true a c = withJob a (cancelled (c .jobs a)) c
+cancelIf false a c = withJob a (ended 3 (c .jobs a)) c
+
+unfoldable pub cancel : Layout → ℕ → Core → Core
+cancel p a c = cancelIf (isOwn (waitOf p c a)) a c
+
+unfoldable pub begin : Layout → ℕ → Task → Core → Core
+begin p a t c = withJob a (begun p a t (c .jobs a)) c
+
+-- "Release clears the lock."
+unfoldable pub release : ℕ → Core → Core
+release d c = withDevice d Free c

@@ -1,0 +1,77 @@
+-- document 01, "A round": its first half with the lent memory
+use Prim.Native.Nat.{ℕ, zero, suc, _+_}
+use mathlib.Core.List.{List, [], _∷_, _++_}
+use lib.ListN.{getD}
+use Rattle.arith.specs.Parts.{upd}
+use Rattle.memory.specs.declared.DeviceAnswer.{DeviceAnswer}
+use Rattle.memory.specs.declared.DeviceAnswer.the-variants as Answers
+use Rattle.plan.specs.Questions.{areaOf}
+use Rattle.plan.specs.declared.records.Plan.{Plan}
+use Rattle.segment.specs.declared.Segment.{Segment}
+use Rattle.state.specs.declared.DeviceState.{DeviceState}
+use Rattle.state.specs.declared.DeviceState.the-variants.{Free, Runs, LockedFor}
+use Rattle.state.specs.declared.Job.{Job}
+use Rattle.rules.specs.Layout.{Layout, layoutOf}
+use Rattle.rules.specs.Machine.{Core, Verdict, goesOn, finished, differs, failed, due, takeAnswer, secondHalf}
+use Rattle.rules.specs.Memory.{Memory, verdictOf, memoryAfter}
+
+-- "A round takes the four answers of its devices, one each"
+abbrev pub answerOf : List DeviceAnswer → ℕ → DeviceAnswer
+answerOf l d = getD l d Answers.Pending
+
+-- "Window bytes are those of this moment, at the processed length from the window's start"
+abbrev pub windowPlace : Plan → ℕ → Job → ℕ
+windowPlace p a j = areaOf (p .areas) a .window .start + j .processed
+
+-- Beside jobs, devices and memory, the first half keeps for each area the requests of its latest job that were done.
+pub record Half : Type 0 where
+  pub core : Core
+  pub memory : Memory
+  pub done : ℕ → List Segment
+
+abbrev pub verdictOn : Plan → DeviceState → DeviceAnswer → (ℕ → Job) → Memory → Verdict
+verdictOn p Free x jobs m = goesOn
+verdictOn p (LockedFor a) x jobs m = goesOn
+verdictOn p (Runs a polls) x jobs m =
+    let s = due (layoutOf p) a (jobs a) in
+    verdictOf x (jobs a .task .kind) (s .start .0) (windowPlace p a (jobs a)) (s .length) m
+
+abbrev pub memoryOn : Plan → DeviceState → DeviceAnswer → (ℕ → Job) → Memory → Memory
+memoryOn p Free x jobs m = m
+memoryOn p (LockedFor a) x jobs m = m
+memoryOn p (Runs a polls) x jobs m =
+    let s = due (layoutOf p) a (jobs a) in
+    memoryAfter x (jobs a .task .kind) (s .start .0) (windowPlace p a (jobs a)) (s .length) m
+
+abbrev pub addDone : Verdict → ℕ → Segment → (ℕ → List Segment) → ℕ → List Segment
+addDone finished a s done = upd done a (done a ++ (s ∷ []))
+addDone goesOn a s done = done
+addDone differs a s done = done
+addDone failed a s done = done
+
+abbrev pub doneOn : Plan → DeviceState → Verdict → (ℕ → Job) → (ℕ → List Segment) → ℕ → List Segment
+doneOn p Free v jobs done = done
+doneOn p (LockedFor a) v jobs done = done
+doneOn p (Runs a polls) v jobs done = addDone v a (due (layoutOf p) a (jobs a)) done
+
+-- one device takes its answer
+unfoldable pub takeIn : Plan → ℕ → DeviceAnswer → Half → Half
+takeIn p d x h =
+    let state = h .core .devices d in
+    let v = verdictOn p state x (h .core .jobs) (h .memory) in
+    record {
+      core = takeAnswer (layoutOf p) d v (h .core);
+      memory = memoryOn p state x (h .core .jobs) (h .memory);
+      done = doneOn p state v (h .core .jobs) (h .done);
+    }
+
+-- the devices below n have taken their answers
+unfoldable pub takeAll : Plan → List DeviceAnswer → ℕ → Half → Half
+takeAll p answers zero h = h
+takeAll p answers (suc n) h = takeIn p n (answerOf answers n) (takeAll p answers n h)
+
+-- both halves
+unfoldable pub roundHalves : Plan → List DeviceAnswer → Half → Half
+roundHalves p answers h =
+    let first = takeAll p answers (p .«device_count») h in
+    record { core = secondHalf (layoutOf p) (p .«device_count») (first .core); memory = first .memory; done = first .done }
