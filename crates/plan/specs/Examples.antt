@@ -12,30 +12,30 @@ use Rattle.plan.specs.Questions as questions
 use Rattle.plan.specs.Questions.{loadNumber}
 
 -- `width` bytes of a number, the least significant first
-abbrev bytes : ℕ → ℕ → List ℕ
+abbrev pub bytes : ℕ → ℕ → List ℕ
 bytes zero n = []
 bytes (suc width) n = n % 256 ∷ bytes width (n / 256)
 
-abbrev device : ℕ → ℕ → ℕ → List ℕ
+abbrev pub device : ℕ → ℕ → ℕ → List ℕ
 device start size patience = 68 ∷ 86 ∷ bytes 4 start ++ bytes 4 size ++ bytes 2 patience
 
-abbrev area : ℕ → ℕ → ℕ → ℕ → List ℕ
+abbrev pub area : ℕ → ℕ → ℕ → ℕ → List ℕ
 area priority start window size = 65 ∷ 82 ∷ bytes 2 priority ++ bytes 4 start ++ bytes 4 window ++ bytes 4 size
 
-abbrev subArea : ℕ → ℕ → ℕ → List ℕ → ℕ → ℕ → ℕ → List ℕ
+abbrev pub subArea : ℕ → ℕ → ℕ → List ℕ → ℕ → ℕ → ℕ → List ℕ
 subArea a d start sizes count writes erases =
     83 ∷ 66 ∷ bytes 1 a ++ bytes 1 d ++ bytes 4 start ++ sizes ++ bytes 4 count ++ bytes 1 writes ++ bytes 1 erases
 
-abbrev sizes : ℕ → ℕ → ℕ → ℕ → ℕ → ℕ → List ℕ
+abbrev pub sizes : ℕ → ℕ → ℕ → ℕ → ℕ → ℕ → List ℕ
 sizes sector burst page pages least most = bytes 4 sector ++ bytes 4 burst ++ bytes 4 page ++ bytes 4 pages ++ bytes 4 least ++ bytes 4 most
 
 -- plan T, but for device length, patience and the first sub-area's sector burst
-abbrev planWith : ℕ → ℕ → ℕ → List ℕ
+abbrev pub planWith : ℕ → ℕ → ℕ → List ℕ
 planWith size patience burst =
     device 0 size patience ++ area 1 0 0 16 ++ area 5 256 16 16 ++ subArea 0 0 0 (sizes 16 burst 4 8 1 8) 2 1 0
     ++ subArea 1 0 32 (sizes 16 16 4 4 1 4) 2 0 0
 
-abbrev planT : List ℕ
+abbrev pub planT : List ℕ
 planT = planWith 64 2 32
 
 -- "Empty plan: 2. Patience 0: 3. Device length 63: 6. Sector burst 24: 5."

@@ -146,3 +146,11 @@ memoryInfoNumber p a address = firstNo 10 (memoryInfoQuestions p a address)
 
 unfoldable pub roundNumber : Plan → List ℕ → List ℕ → ℕ
 roundNumber p image store = firstNo 18 (imageFits p image ∷ storeReaches p store ∷ [])
+
+-- questions 12 to 15, which are of the plan alone
+unfoldable pub admits : Plan → ℕ → Task → Bool
+admits p a t =
+    isInside p a (t .address) (t .length)
+    && (ifAsked (not (isLock (t .kind))) (isAligned p a t)
+    && (ifAsked (usesWindow (t .kind)) (fitsWindow p a t)
+    && ifAsked (isLock (t .kind)) (onOneDevice p a (t .address) (t .length))))

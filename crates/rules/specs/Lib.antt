@@ -5,3 +5,6 @@ pub mod Memory
 pub mod Round
 pub mod History
 pub mod Queries
+pub mod Session
+pub mod PrintedSession
+pub mod Laws
