@@ -6,5 +6,7 @@ pub mod Round
 pub mod History
 pub mod Queries
 pub mod Session
+pub mod MarkedCases
 pub mod PrintedSession
+pub mod ClosedRuns
 pub mod Laws

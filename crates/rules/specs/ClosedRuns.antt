@@ -1,0 +1,84 @@
+-- Runs of the rules where one is easy to get wrong, as the bench prints them. The expected entries are those of the independent model.
+use Prim.Native.Nat.{ℕ}
+use mathlib.Core.Path.{_≡_, refl}
+use mathlib.Core.List.{List, [], _∷_, _++_}
+use lib.ListN.{replicate}
+use Rattle.memory.specs.declared.DeviceAnswer.the-variants.{Pending, Done, Failed}
+use Rattle.memory.specs.declared.JobType.{JobType}
+use Rattle.memory.specs.declared.JobType.the-variants.{Write, Compare, Erase, BlankCheck, Lock}
+use Rattle.plan.specs.Examples.{planT, device, area, subArea, sizes}
+use Rattle.rules.specs.Session.{Entry, number, devices, info, Line, call, answers, nothing, locked, request}
+use Rattle.arith.specs.Bounded as Bounded
+use Rattle.arith.specs.FirstNo as FirstNo
+use Rattle.arith.specs.Multiples as Multiples
+use Rattle.arith.specs.Tables as Tables
+use Rattle.arith.specs.Parts as Parts
+use Rattle.plan.specs.Number as Number
+use Rattle.plan.specs.Records as Records
+use Rattle.plan.specs.Questions as Questions
+use Rattle.segment.specs.Mapping as Mapping
+use Rattle.segment.specs.Segments as Segments
+use Rattle.rules.specs.Layout as Layout
+use Rattle.rules.specs.Machine as Machine
+use Rattle.rules.specs.Admission as Admission
+use Rattle.rules.specs.Round as Round
+use Rattle.rules.specs.History as History
+use Rattle.rules.specs.Session as Session
+
+-- two devices; area 0 has a sub-area on device 1 and one on device 0, area 1 one on device 0
+abbrev pub planU : List ℕ
+planU =
+    device 0 64 2 ++ device 64 32 3 ++ area 1 16 0 16 ++ area 5 0 16 16 ++ subArea 0 1 64 (sizes 16 16 4 4 1 8) 1 1 0
+    ++ subArea 0 0 16 (sizes 16 32 4 8 1 8) 2 1 0 ++ subArea 1 0 48 (sizes 16 16 4 4 1 8) 1 0 0
+
+abbrev pub job : JobType → ℕ → ℕ → ℕ → Line
+job k a address n = call (History.submit a (record { kind = k; address = record { 0 = address }; length = n }))
+
+abbrev pub cancel : ℕ → Line
+cancel a = call (History.cancels a)
+
+abbrev pub release : ℕ → ℕ → ℕ → Line
+release a address n = call (History.releases a (record { 0 = address }) n)
+
+abbrev pub ask : ℕ → Line
+ask a = call (History.asks (History.jobInfo a))
+
+-- what the bench prints on a plan with an image of n bytes; the windows end at 32
+abbrev pub prints : List ℕ → ℕ → List Line → List Entry
+prints plan n lines =
+    Session.play (Records.planOf plan) lines
+    (record { history = History.start; memory = record { image = replicate n 255; store = replicate 32 0 }; printed = [] }) .printed
+
+pub closed-runs :
+    -- A request that is dropped by patience is due again where a retry is left, and may start in the same round.
+    (prints planT 64 (job Write 0 4 4 ∷ answers (Pending ∷ []) ∷ answers (Pending ∷ []) ∷ answers (Pending ∷ []) ∷ answers (Done ∷ []) ∷ ask 0 ∷ [])
+    ≡ number 0 ∷ devices (request 0 1 4 4 ∷ []) ∷ devices (request 0 1 4 4 ∷ []) ∷ devices (request 0 1 4 4 ∷ []) ∷ devices (nothing ∷ []) ∷ info 0 4 3 0 0 0 ∷ [])
+    -- Without a retry the drop ends the job with 1.
+    × (prints planT 64 (job Write 1 256 4 ∷ answers (Pending ∷ []) ∷ answers (Pending ∷ []) ∷ answers (Pending ∷ []) ∷ ask 1 ∷ [])
+    ≡ number 0 ∷ devices (request 1 1 32 4 ∷ []) ∷ devices (request 1 1 32 4 ∷ []) ∷ devices (nothing ∷ []) ∷ info 1 0 2 0 0 0 ∷ [])
+    -- A failed write has acted on its first 3 bytes; the others are still 255. Cancelled, it is not retried.
+    × (prints planT 64 (job Write 0 0 8 ∷ answers (Pending ∷ []) ∷ answers (Failed 3 ∷ []) ∷ cancel 0 ∷ answers (Failed 0 ∷ []) ∷ ask 0 ∷ job BlankCheck 0 0 3 ∷ answers (Pending ∷ []) ∷ answers (Done ∷ []) ∷ ask 0 ∷ job BlankCheck 0 3 5 ∷ answers (Pending ∷ []) ∷ answers (Done ∷ []) ∷ ask 0 ∷ [])
+    ≡ number 0 ∷ devices (request 0 1 0 8 ∷ []) ∷ devices (request 0 1 0 8 ∷ []) ∷ number 0 ∷ devices (nothing ∷ []) ∷ info 3 0 2 0 0 0 ∷ number 0 ∷ devices (request 0 6 0 3 ∷ []) ∷ devices (nothing ∷ []) ∷ info 2 0 1 0 0 0 ∷ number 0 ∷ devices (request 0 6 3 5 ∷ []) ∷ devices (nothing ∷ []) ∷ info 0 5 1 0 0 0 ∷ [])
+    -- The image holds 255, the window 0.
+    × (prints planT 64 (job Compare 0 0 4 ∷ answers (Pending ∷ []) ∷ answers (Done ∷ []) ∷ ask 0 ∷ [])
+    ≡ number 0 ∷ devices (request 0 3 0 4 ∷ []) ∷ devices (nothing ∷ []) ∷ info 2 0 1 0 0 0 ∷ [])
+    -- The area stays pending; the done piece counts, and the result is 3.
+    × (prints planT 64 (job Write 0 4 12 ∷ answers (Pending ∷ []) ∷ cancel 0 ∷ ask 0 ∷ cancel 0 ∷ answers (Done ∷ []) ∷ ask 0 ∷ cancel 0 ∷ [])
+    ≡ number 0 ∷ devices (request 0 1 4 4 ∷ []) ∷ number 0 ∷ info 0 0 1 0 0 0 ∷ number 0 ∷ devices (nothing ∷ []) ∷ info 3 4 1 0 0 0 ∷ number 17 ∷ [])
+    -- The lock goes to the higher area; the write waits until the release. Only the holder releases.
+    × (prints planT 64 (job Lock 1 256 4 ∷ job Write 0 4 4 ∷ answers (Pending ∷ []) ∷ answers (Pending ∷ []) ∷ ask 0 ∷ release 0 0 4 ∷ release 1 256 4 ∷ answers (Pending ∷ []) ∷ answers (Done ∷ []) ∷ ask 0 ∷ ask 1 ∷ [])
+    ≡ number 0 ∷ number 0 ∷ devices (locked ∷ []) ∷ devices (locked ∷ []) ∷ info 0 0 0 0 0 2 ∷ number 16 ∷ number 0 ∷ devices (request 0 1 4 4 ∷ []) ∷ devices (nothing ∷ []) ∷ info 0 4 1 0 0 2 ∷ info 0 0 0 0 0 0 ∷ [])
+    -- A retry does not keep the device against a higher area.
+    × (prints planT 64 (job Write 0 4 4 ∷ answers (Pending ∷ []) ∷ job Write 1 256 4 ∷ answers (Failed 2 ∷ []) ∷ answers (Done ∷ []) ∷ answers (Done ∷ []) ∷ ask 0 ∷ [])
+    ≡ number 0 ∷ devices (request 0 1 4 4 ∷ []) ∷ number 0 ∷ devices (request 1 1 32 4 ∷ []) ∷ devices (request 0 1 4 4 ∷ []) ∷ devices (nothing ∷ []) ∷ info 0 4 2 1 0 0 ∷ [])
+    -- Two devices run side by side.
+    × (prints planU 96 (job Write 0 16 4 ∷ job Write 1 0 4 ∷ answers (Pending ∷ Pending ∷ []) ∷ answers (Done ∷ Pending ∷ []) ∷ answers (Pending ∷ Done ∷ []) ∷ ask 0 ∷ ask 1 ∷ [])
+    ≡ number 0 ∷ number 0 ∷ devices (request 1 1 48 4 ∷ request 0 1 64 4 ∷ []) ∷ devices (nothing ∷ request 0 1 64 4 ∷ []) ∷ devices (nothing ∷ nothing ∷ []) ∷ info 0 4 2 0 0 0 ∷ info 0 4 1 0 0 0 ∷ [])
+    -- A job whose piece is done on device 1 goes on on device 0 in the same round: all answers come first.
+    × (prints planU 96 (job Erase 0 16 32 ∷ answers (Pending ∷ Pending ∷ []) ∷ answers (Pending ∷ Done ∷ []) ∷ answers (Done ∷ Pending ∷ []) ∷ ask 0 ∷ [])
+    ≡ number 0 ∷ devices (nothing ∷ request 0 4 64 16 ∷ []) ∷ devices (request 0 4 16 16 ∷ nothing ∷ []) ∷ devices (nothing ∷ nothing ∷ []) ∷ info 0 32 2 0 0 0 ∷ [])
+    -- Logical address 32 is at physical 16, which is no multiple of the sector burst 32; at physical 32 only one sector is left.
+    × (prints planU 96 (job Erase 0 32 32 ∷ answers (Pending ∷ Pending ∷ []) ∷ answers (Done ∷ Pending ∷ []) ∷ answers (Done ∷ Pending ∷ []) ∷ ask 0 ∷ [])
+    ≡ number 0 ∷ devices (request 0 4 16 16 ∷ nothing ∷ []) ∷ devices (request 0 4 32 16 ∷ nothing ∷ []) ∷ devices (nothing ∷ nothing ∷ []) ∷ info 0 32 2 0 0 0 ∷ [])
+unfolding Bounded.every Bounded.some Bounded.sum FirstNo.firstNo Multiples.multiple Tables.table Parts.part Parts.put Parts.upd Number.numberAt Records.deviceAt Records.areaAt Records.granularityAt Records.subAreaAt Records.isRecord Records.recordsUpTo Records.recordsFrom Records.deviceCount Records.areasStart Records.areaCount Records.subAreasStart Records.subAreaCount Records.recordsEnd Records.recordLayout Records.planOf Records.emptyPlan Questions.apart Questions.wholeRecords Questions.countsFit Questions.deviceDue Questions.deviceJoins Questions.devicesJoin Questions.windowsApart Questions.windowsFit Questions.granularityFits Questions.sizesFit Questions.insideDevice Questions.isPlaced Questions.allPlaced Questions.sizeIn Questions.spaceFits Questions.spacesFit Questions.subAreasApart Questions.recordQuestions Questions.planQuestions Questions.loadNumber Questions.loadedPlan Mapping.find Mapping.mapped Segments.burstOrUnit Segments.segmentAt Segments.cut Segments.segmentsFrom Segments.spansAfter Segments.spans Segments.ownSum Segments.belowSum Segments.ownBound Segments.belowBound Layout.ranksAbove Layout.layoutOf Machine.jobFailed Machine.jobFinished Machine.jobDiffers Machine.takeAnswer Machine.firstHalf Machine.ready Machine.best Machine.start Machine.secondHalf Machine.behind Machine.cancel Machine.begin Machine.release Admission.isInside Admission.isAligned Admission.fitsWindow Admission.onOneDevice Admission.rangeDevice Admission.jobQuestions Admission.releaseQuestions Admission.cancelQuestions Admission.infoQuestions Admission.memoryInfoQuestions Admission.imageFits Admission.storeReaches Admission.jobNumber Admission.releaseNumber Admission.cancelNumber Admission.infoNumber Admission.memoryInfoNumber Admission.roundNumber Admission.admits Round.takeIn Round.takeAll Round.roundHalves History.start History.roundOf History.submitted History.step History.run Session.shownTo Session.entryOf Session.playLine Session.play
+closed-runs = (refl, refl, refl, refl, refl, refl, refl, refl, refl, refl)
