@@ -1,5 +1,16 @@
 // Segmentation: where a job's bytes lie, and how a job is cut into driver requests.
+ghost use mathlib.Core.Path.{_≡_};
+ghost use Prim.Native.Nat.{_+_, _-_, _≤_, _<_, min};
+ghost use Rattle.plan.specs.Questions.{sizeOf};
+ghost use Rattle.segment.specs.Mapping.{find, mapped};
+ghost use Rattle.segment.specs.Segments.{unitOf, retriesOf, burstOrUnit, segmentLength, segmentIn, noSegment, segmentOf, segmentAt};
+use memory::JobType;
 use memory::MemAddress;
+use memory::Task;
+use plan::number::is_multiple;
+use plan::records::Granularity;
+use plan::records::Plan;
+use plan::records::SubAreaRecord;
 
 // What the lookup finds: a sub-area record and the offset in it, or no sub-area of the area has the byte.
 pub enum Found {
@@ -13,4 +24,169 @@ pub struct Segment {
     pub start: MemAddress,
     pub length: u64,
     pub retries: u8,
+}
+
+// The byte at an offset of the area: a walk over the records in plan order.
+pub fn lookup(sub_areas: [SubAreaRecord; 32], count: usize, area: usize, offset: u64) -> Found
+    requires { ⌜ count ≤ 32 ⌝ }
+    ensures { λ r. ⌜ r ≡ find count «sub_areas» 0 area offset ⌝ }
+{
+    let mut left = offset;
+    let mut i = 0;
+    while i < count {
+        let sub_area = sub_areas[i];
+        let size = sub_area.size();
+        if sub_area.area as usize == area {
+            if left < size {
+                return Found::At {
+                    sub_area: i,
+                    offset: left,
+                };
+            }
+            left -= size;
+            i += 1;
+        } else {
+            i += 1;
+        }
+    }
+    Found::Outside
+}
+
+// The mapping: where the byte at a logical address lies. The address may lie behind those that a call can name.
+pub fn map_address(plan: Plan, area: usize, address: u64) -> Found
+    requires { ⌜ (plan .«sub_area_count» ≤ 32) × (area < 8) ⌝ }
+    ensures { λ r. ⌜ r ≡ mapped plan area (record { 0 = address }) ⌝ }
+{
+    let record = plan.areas[area];
+    let start = record.start.0 as u64;
+    if address < start {
+        return Found::Outside;
+    }
+    let sub_areas = plan.sub_areas;
+    lookup(sub_areas, plan.sub_area_count, area, address - start)
+}
+
+fn least(a: u64, b: u64) -> u64
+    ensures { λ r. ⌜ r ≡ min a b ⌝ }
+{
+    if a < b {
+        return a;
+    }
+    b
+}
+
+// The unit of an operation in a sub-area.
+pub fn unit_of(kind: JobType, sub_area: SubAreaRecord) -> u32
+    ensures { λ r. ⌜ r ≡ unitOf kind «sub_area» ⌝ }
+{
+    match kind {
+        JobType::Erase => sub_area.erase.unit,
+        JobType::Write => sub_area.write.unit,
+        JobType::Read => sub_area.read.unit,
+        JobType::Compare => sub_area.read.unit,
+        JobType::BlankCheck => sub_area.read.unit,
+        JobType::Lock => 1,
+        JobType::NoJob => 1,
+    }
+}
+
+fn retries_of(kind: JobType, sub_area: SubAreaRecord) -> u8
+    ensures { λ r. ⌜ r ≡ retriesOf kind «sub_area» ⌝ }
+{
+    match kind {
+        JobType::Write => sub_area.write_retries,
+        JobType::Erase => sub_area.erase_retries,
+        JobType::Read => 0,
+        JobType::Compare => 0,
+        JobType::BlankCheck => 0,
+        JobType::Lock => 0,
+        JobType::NoJob => 0,
+    }
+}
+
+fn burst_or_unit(granularity: Granularity, at: u64, n: u64) -> u64
+    ensures { λ r. ⌜ r ≡ burstOrUnit granularity at n ⌝ }
+{
+    let burst = granularity.burst as u64;
+    let unit = granularity.unit as u64;
+    if !is_multiple(burst, at) {
+        return unit;
+    }
+    if n < burst {
+        return unit;
+    }
+    burst
+}
+
+// The length of the next segment at physical address `at`, with n job bytes left in the sub-area.
+fn segment_length(kind: JobType, sub_area: SubAreaRecord, at: u64, n: u64) -> u64
+    ensures { λ r. ⌜ r ≡ segmentLength kind «sub_area» at n ⌝ }
+{
+    let erase = sub_area.erase;
+    let write = sub_area.write;
+    match kind {
+        JobType::Erase => burst_or_unit(erase, at, n),
+        JobType::Write => burst_or_unit(write, at, n),
+        JobType::Read => least(n, sub_area.read.burst as u64),
+        JobType::Compare => least(n, sub_area.read.burst as u64),
+        JobType::BlankCheck => least(n, sub_area.read.burst as u64),
+        JobType::Lock => n,
+        JobType::NoJob => n,
+    }
+}
+
+// The segment at an offset of a sub-area, with `left` bytes of the job left.
+fn segment_in(kind: JobType, sub_area: SubAreaRecord, offset: u64, left: u64) -> Segment
+    requires { ⌜ offset ≤ sizeOf «sub_area» ⌝ }
+    ensures { λ r. ⌜ r ≡ segmentIn kind «sub_area» offset left ⌝ }
+{
+    let at = (sub_area.start as u64) + offset;
+    let rest = sub_area.size() - offset;
+    let n = least(left, rest);
+    let length = segment_length(kind, sub_area, at, n);
+    let retries = retries_of(kind, sub_area);
+    Segment {
+        device: sub_area.device,
+        start: MemAddress(at),
+        length,
+        retries,
+    }
+}
+
+fn no_segment() -> Segment
+    ensures { λ r. ⌜ r ≡ noSegment ⌝ }
+{
+    Segment {
+        device: 0,
+        start: MemAddress(0),
+        length: 0,
+        retries: 0,
+    }
+}
+
+fn minus(a: u64, b: u64) -> u64
+    ensures { λ r. ⌜ r ≡ a - b ⌝ }
+{
+    if a < b {
+        return 0;
+    }
+    a - b
+}
+
+// The segment of an area's job that is due once `processed` bytes are done.
+pub fn segment_at(plan: Plan, area: usize, task: Task, processed: u32) -> Segment
+    requires { ⌜ (plan .«sub_area_count» ≤ 32) × (area < 8) ⌝ }
+    ensures { λ r. ⌜ r ≡ segmentAt plan area task processed ⌝ }
+{
+    let address = (task.address.0 as u64) + (processed as u64);
+    let found = map_address(plan, area, address);
+    match found {
+        Found::Outside => no_segment(),
+        Found::At { sub_area, offset } => {
+            let kind = task.kind;
+            let left = minus(task.length as u64, processed as u64);
+            let records = plan.sub_areas;
+            segment_in(kind, records[sub_area], offset, left)
+        }
+    }
 }
