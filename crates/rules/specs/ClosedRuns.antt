@@ -28,7 +28,7 @@ use Rattle.rules.specs.Session as Session
 -- two devices; area 0 has a sub-area on device 1 and one on device 0, area 1 one on device 0
 abbrev pub planU : List ℕ
 planU =
-    device 0 64 2 ++ device 64 32 3 ++ area 1 16 0 16 ++ area 5 0 16 16 ++ subArea 0 1 64 (sizes 16 16 4 4 1 8) 1 1 0
+    device 0 64 2 ++ device 64 32 3 ++ area 5 16 0 16 ++ area 1 0 16 16 ++ subArea 0 1 64 (sizes 16 16 4 4 1 8) 1 1 0
     ++ subArea 0 0 16 (sizes 16 32 4 8 1 8) 2 1 0 ++ subArea 1 0 48 (sizes 16 16 4 4 1 8) 1 0 0
 
 abbrev pub job : JobType → ℕ → ℕ → ℕ → Line
@@ -74,9 +74,9 @@ pub closed-runs :
     -- Two devices run side by side.
     × (prints planU 96 (job Write 0 16 4 ∷ job Write 1 0 4 ∷ answers (Pending ∷ Pending ∷ []) ∷ answers (Done ∷ Pending ∷ []) ∷ answers (Pending ∷ Done ∷ []) ∷ ask 0 ∷ ask 1 ∷ [])
     ≡ number 0 ∷ number 0 ∷ devices (request 1 1 48 4 ∷ request 0 1 64 4 ∷ []) ∷ devices (nothing ∷ request 0 1 64 4 ∷ []) ∷ devices (nothing ∷ nothing ∷ []) ∷ info 0 4 2 0 0 0 ∷ info 0 4 1 0 0 0 ∷ [])
-    -- A job whose piece is done on device 1 goes on on device 0 in the same round: all answers come first.
-    × (prints planU 96 (job Erase 0 16 32 ∷ answers (Pending ∷ Pending ∷ []) ∷ answers (Pending ∷ Done ∷ []) ∷ answers (Done ∷ Pending ∷ []) ∷ ask 0 ∷ [])
-    ≡ number 0 ∷ devices (nothing ∷ request 0 4 64 16 ∷ []) ∷ devices (request 0 4 16 16 ∷ nothing ∷ []) ∷ devices (nothing ∷ nothing ∷ []) ∷ info 0 32 2 0 0 0 ∷ [])
+    -- A job whose piece is done on device 1 goes on on device 0 in the same round, before a lower area: all answers come first.
+    × (prints planU 96 (job Erase 0 16 32 ∷ answers (Pending ∷ Pending ∷ []) ∷ job Write 1 0 4 ∷ answers (Pending ∷ Done ∷ []) ∷ answers (Done ∷ Pending ∷ []) ∷ answers (Done ∷ Pending ∷ []) ∷ ask 0 ∷ ask 1 ∷ [])
+    ≡ number 0 ∷ devices (nothing ∷ request 0 4 64 16 ∷ []) ∷ number 0 ∷ devices (request 0 4 16 16 ∷ nothing ∷ []) ∷ devices (request 1 1 48 4 ∷ nothing ∷ []) ∷ devices (nothing ∷ nothing ∷ []) ∷ info 0 32 2 0 0 0 ∷ info 0 4 1 1 0 0 ∷ [])
     -- Logical address 32 is at physical 16, which is no multiple of the sector burst 32; at physical 32 only one sector is left.
     × (prints planU 96 (job Erase 0 32 32 ∷ answers (Pending ∷ Pending ∷ []) ∷ answers (Done ∷ Pending ∷ []) ∷ answers (Done ∷ Pending ∷ []) ∷ ask 0 ∷ [])
     ≡ number 0 ∷ devices (request 0 4 16 16 ∷ nothing ∷ []) ∷ devices (request 0 4 32 16 ∷ nothing ∷ []) ∷ devices (nothing ∷ nothing ∷ []) ∷ info 0 32 2 0 0 0 ∷ [])

@@ -1,3 +1,4 @@
 pub mod Mapping
 pub mod Segments
+pub mod Borders
 pub mod LookupLaws
