@@ -53,6 +53,12 @@ module _ (p : ℕ → Bool) where
   pub every-fails : (n i : ℕ) → i < n → p i ≡ false → every p n ≡ false
   every-fails n i h e = by-bool (every p n) (λ t. absurd (true≢false (sym (every-elim n t i h) ∙ e))) (λ f. f)
 
+  -- another statement that says the same below n
+  pub every-same : (q : ℕ → Bool) (n : ℕ) → ((i : ℕ) → i < n → p i ≡ q i) → every p n ≡ every q n
+  unfolding every
+  every-same q zero h = refl
+  every-same q (suc n) h = rw (every-same q n (λ i l. h i (omega arith)), h n (omega arith))
+
   pub some-elim : (n : ℕ) → some p n ≡ true → (i : ℕ) × (i < n) × (p i ≡ true)
   unfolding some
   some-elim zero e = absurd (false≢true e)

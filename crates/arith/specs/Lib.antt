@@ -5,4 +5,5 @@ pub mod Products
 pub mod Plain
 pub mod Tables
 pub mod Parts
+pub mod Listed
 pub mod FirstNo

@@ -10,3 +10,5 @@ pub mod MarkedCases
 pub mod PrintedSession
 pub mod ClosedRuns
 pub mod Laws
+pub mod RankLaws
+pub mod PlanLaws

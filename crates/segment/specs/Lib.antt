@@ -1,4 +1,11 @@
 pub mod Mapping
 pub mod Segments
+pub mod Bytes
 pub mod Borders
+pub mod MappingLaws
+pub mod LengthLaws
+pub mod CutLaws
+pub mod SegmentLaws
+pub mod BytesLaws
+pub mod SpanLaws
 pub mod LookupLaws

@@ -1,0 +1,119 @@
+// What drivers do with parts of lent memory: the chip image and the job store.
+ghost use mathlib.Core.Path.{_≡_};
+ghost use Prim.Native.Nat.{_+_, _≤_};
+ghost use lib.Dec.{eqb};
+ghost use lib.ListN.{length, getD, replicate};
+ghost use Rattle.arith.specs.Bounded.{every};
+ghost use Rattle.arith.specs.Parts.{part, put};
+
+// The loops, over whole slices.
+fn copy_all(dst: &mut [u8], src: &[u8])
+    requires { ⌜ length (now src) ≡ length (now dst) ⌝ }
+    ensures { λ _. ⌜ now (dst .exit) ≡ now (src .entry) ⌝ }
+{
+    let mut i = 0;
+    while i < src.len() {
+        dst[i] = src[i];
+        i += 1;
+    }
+}
+
+fn fill_all(dst: &mut [u8], b: u8)
+    ensures { λ _. ⌜ now (dst .exit) ≡ replicate (length (now (dst .entry))) b ⌝ }
+{
+    let mut i = 0;
+    while i < dst.len() {
+        dst[i] = b;
+        i += 1;
+    }
+}
+
+fn same_all(a: &[u8], b: &[u8]) -> bool
+    requires { ⌜ length (now a) ≡ length (now b) ⌝ }
+    ensures { λ r. ⌜ r ≡ every (λ i. eqb (getD (now (a .entry)) i 0) (getD (now (b .entry)) i 0)) (length (now (a .entry))) ⌝ }
+{
+    let mut i = 0;
+    while i < a.len() {
+        if a[i] != b[i] {
+            return false;
+        }
+        i += 1;
+    }
+    true
+}
+
+fn blank_all(a: &[u8]) -> bool
+    ensures { λ r. ⌜ r ≡ every (λ i. eqb (getD (now (a .entry)) i 0) 255) (length (now (a .entry))) ⌝ }
+{
+    let mut i = 0;
+    while i < a.len() {
+        if a[i] != 255 {
+            return false;
+        }
+        i += 1;
+    }
+    true
+}
+
+// The part of the job store that a driver gets: n bytes from `from` on, never a copy.
+pub fn window_part<'a>(store: &'a [u8], from: usize, n: usize) -> &'a [u8]
+    requires { ⌜ from + n ≤ length (now store) ⌝ }
+    ensures { λ r. ⌜ (now r ≡ part from n (now (store .entry))) × (length (now r) ≡ n) ⌝ }
+{
+    let e = from + n;
+    &store[from..e]
+}
+
+// All of src goes to dst at p.
+fn copy_to(dst: &mut [u8], p: usize, src: &[u8])
+    requires { ⌜ p + length (now src) ≤ length (now dst) ⌝ }
+    ensures { λ _. ⌜ now (dst .exit) ≡ put p (now (src .entry)) (now (dst .entry)) ⌝ }
+{
+    let e = p + src.len();
+    copy_all(&mut dst[p..e], src);
+}
+
+// n bytes of the window at q go to the image at p.
+pub fn write_part(image: &mut [u8], p: usize, store: &[u8], q: usize, n: usize)
+    requires { ⌜ (p + n ≤ length (now image)) × (q + n ≤ length (now store)) ⌝ }
+    ensures { λ _. ⌜ now (image .exit) ≡ put p (part q n (now (store .entry))) (now (image .entry)) ⌝ }
+{
+    let w = window_part(store, q, n);
+    copy_to(image, p, w);
+}
+
+// n bytes of the image at p go to the window at q.
+pub fn read_part(store: &mut [u8], q: usize, image: &[u8], p: usize, n: usize)
+    requires { ⌜ (q + n ≤ length (now store)) × (p + n ≤ length (now image)) ⌝ }
+    ensures { λ _. ⌜ now (store .exit) ≡ put q (part p n (now (image .entry))) (now (store .entry)) ⌝ }
+{
+    let e = p + n;
+    copy_to(store, q, &image[p..e]);
+}
+
+pub fn erase_part(image: &mut [u8], p: usize, n: usize)
+    requires { ⌜ p + n ≤ length (now image) ⌝ }
+    ensures { λ _. ⌜ now (image .exit) ≡ put p (replicate n 255) (now (image .entry)) ⌝ }
+{
+    let e = p + n;
+    fill_all(&mut image[p..e], 255);
+}
+
+// Are the n bytes of the image at p those of the window at q?
+pub fn same_part(image: &[u8], p: usize, store: &[u8], q: usize, n: usize) -> bool
+    requires { ⌜ (p + n ≤ length (now image)) × (q + n ≤ length (now store)) ⌝ }
+    ensures { λ r. ⌜ r ≡ every (λ i. eqb (getD (now (image .entry)) (p + i) 0) (getD (now (store .entry)) (q + i) 0)) n ⌝ }
+{
+    let e = p + n;
+    let w = window_part(store, q, n);
+    same_all(&image[p..e], w)
+}
+
+// Are the n bytes of the image at p all 255?
+pub fn blank_part(image: &[u8], p: usize, n: usize) -> bool
+    requires { ⌜ p + n ≤ length (now image) ⌝ }
+    ensures { λ r. ⌜ r ≡ every (λ i. eqb (getD (now (image .entry)) (p + i) 0) 255) n ⌝ }
+{
+    let e = p + n;
+    blank_all(&image[p..e])
+}
