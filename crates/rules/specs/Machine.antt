@@ -50,8 +50,11 @@ abbrev pub need : Layout → ℕ → Job → ℕ
 need p a j = due p a j .device
 
 -- "An accepted job makes its area pending and sets processed length and counts to 0; the old result stands until the job ends."
+abbrev pub begunWith : ℕ → Task → Job → Job
+begunWith retries t j = record { task = t; processed = 0; «retries_left» = retries; status = Pending; result = j .result }
+
 abbrev pub begun : Layout → ℕ → Task → Job → Job
-begun p a t j = record { task = t; processed = 0; «retries_left» = p .segment a t 0 .retries; status = Pending; result = j .result }
+begun p a t j = begunWith (p .segment a t 0 .retries) t j
 
 -- "After the end, the job's data stays readable"
 abbrev pub ended : ℕ → Job → Job

@@ -1,0 +1,2 @@
+// The machine in code: what happens to one job, one device, one area.
+pub mod jobs;
