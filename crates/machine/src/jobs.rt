@@ -2,27 +2,11 @@
 ghost use mathlib.Core.Path.{_≡_};
 ghost use Prim.Native.Nat.{_-_};
 ghost use lib.Dec.{leb};
-ghost use Rattle.segment.specs.Segments.{isLock};
 ghost use Rattle.rules.specs.Machine.{isPending, isPendingStatus, isCancelling, begunWith, ended, cancelled, moved, jobFailed, jobDiffers, afterFinished};
 use memory::JobResult;
 use memory::JobStatus;
-use memory::JobType;
 use memory::Task;
 use state::Job;
-
-pub fn is_lock(kind: JobType) -> bool
-    ensures { λ r. ⌜ r ≡ isLock kind ⌝ }
-{
-    match kind {
-        JobType::Lock => true,
-        JobType::NoJob => false,
-        JobType::Write => false,
-        JobType::Read => false,
-        JobType::Compare => false,
-        JobType::Erase => false,
-        JobType::BlankCheck => false,
-    }
-}
 
 pub fn is_pending(job: Job) -> bool
     ensures { λ r. ⌜ r ≡ isPending job ⌝ }

@@ -36,6 +36,17 @@ refusalNumber Refusals.Sizes = 5
 refusalNumber Refusals.Placement = 6
 refusalNumber Refusals.AreaSpaces = 7
 refusalNumber Refusals.SharedBytes = 8
+refusalNumber Refusals.Unsound = 9
+refusalNumber Refusals.UnknownArea = 10
+refusalNumber Refusals.Busy = 11
+refusalNumber Refusals.Range = 12
+refusalNumber Refusals.Alignment = 13
+refusalNumber Refusals.WindowLength = 14
+refusalNumber Refusals.SeveralDevices = 15
+refusalNumber Refusals.NotHolder = 16
+refusalNumber Refusals.NotPending = 17
+refusalNumber Refusals.ImageLength = 18
+refusalNumber Refusals.StoreLength = 19
 
 -- "The first 'no' gives its number." "Acceptance is 0."
 abbrev pub admissionNumber : Admission → ℕ
@@ -52,3 +63,14 @@ refusal-some Refusals.Sizes = omega arith
 refusal-some Refusals.Placement = omega arith
 refusal-some Refusals.AreaSpaces = omega arith
 refusal-some Refusals.SharedBytes = omega arith
+refusal-some Refusals.Unsound = omega arith
+refusal-some Refusals.UnknownArea = omega arith
+refusal-some Refusals.Busy = omega arith
+refusal-some Refusals.Range = omega arith
+refusal-some Refusals.Alignment = omega arith
+refusal-some Refusals.WindowLength = omega arith
+refusal-some Refusals.SeveralDevices = omega arith
+refusal-some Refusals.NotHolder = omega arith
+refusal-some Refusals.NotPending = omega arith
+refusal-some Refusals.ImageLength = omega arith
+refusal-some Refusals.StoreLength = omega arith

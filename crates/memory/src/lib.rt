@@ -95,6 +95,17 @@ pub enum Refusal {
     Placement,
     AreaSpaces,
     SharedBytes,
+    Unsound,
+    UnknownArea,
+    Busy,
+    Range,
+    Alignment,
+    WindowLength,
+    SeveralDevices,
+    NotHolder,
+    NotPending,
+    ImageLength,
+    StoreLength,
 }
 
 impl Refusal {
@@ -110,6 +121,17 @@ impl Refusal {
             Refusal::Placement => 6,
             Refusal::AreaSpaces => 7,
             Refusal::SharedBytes => 8,
+            Refusal::Unsound => 9,
+            Refusal::UnknownArea => 10,
+            Refusal::Busy => 11,
+            Refusal::Range => 12,
+            Refusal::Alignment => 13,
+            Refusal::WindowLength => 14,
+            Refusal::SeveralDevices => 15,
+            Refusal::NotHolder => 16,
+            Refusal::NotPending => 17,
+            Refusal::ImageLength => 18,
+            Refusal::StoreLength => 19,
         }
     }
 }

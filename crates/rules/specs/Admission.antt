@@ -87,16 +87,17 @@ abbrev pub ifAsked : Bool → Bool → Bool
 ifAsked true answer = answer
 ifAsked false answer = true
 
--- five jobs and lock: 10 to 15
-unfoldable pub jobQuestions : Plan → Core → ℕ → Task → List Bool
-jobQuestions p c a t =
-    isKnown p a
-    ∷ isIdle c a
-    ∷ isInside p a (t .address) (t .length)
+-- five jobs and lock: 12 to 15, which are of the plan alone, and 10 to 15
+abbrev pub rangeQuestions : Plan → ℕ → Task → List Bool
+rangeQuestions p a t =
+    isInside p a (t .address) (t .length)
     ∷ ifAsked (not (isLock (t .kind))) (isAligned p a t)
     ∷ ifAsked (usesWindow (t .kind)) (fitsWindow p a t)
     ∷ ifAsked (isLock (t .kind)) (onOneDevice p a (t .address) (t .length))
     ∷ []
+
+unfoldable pub jobQuestions : Plan → Core → ℕ → Task → List Bool
+jobQuestions p c a t = isKnown p a ∷ isIdle c a ∷ rangeQuestions p a t
 
 -- release: 10, 12, 15, 16
 unfoldable pub releaseQuestions : Plan → Core → ℕ → LogicalAddress → ℕ → List Bool
@@ -147,7 +148,7 @@ memoryInfoNumber p a address = firstNo 10 (memoryInfoQuestions p a address)
 unfoldable pub roundNumber : Plan → List ℕ → List ℕ → ℕ
 roundNumber p image store = firstNo 18 (imageFits p image ∷ storeReaches p store ∷ [])
 
--- questions 12 to 15, which are of the plan alone
+-- questions 12 to 15 in one
 unfoldable pub admits : Plan → ℕ → Task → Bool
 admits p a t =
     isInside p a (t .address) (t .length)

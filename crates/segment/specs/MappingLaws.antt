@@ -93,6 +93,10 @@ module _ (p : Plan) (a : ℕ) where
       same Outside k = absurd (omega (arith, place-size h, size-rises (i + 1) (p .«sub_area_count») (omega arith)))
       same (At j z) k = let e = one-place k h in rw (e .0, e .1)
 
+  -- a place is inside the area
+  pub place-before-end : {x i y : ℕ} → Place p a x i y → x < areaOf (p .areas) a .start .0 + areaSize (p .«sub_areas») (p .«sub_area_count») a
+  place-before-end {x} {i} {y} h = omega (arith, place-size h, size-rises (i + 1) (p .«sub_area_count») (omega arith))
+
   -- every logical address of the area has a place
   pub place-of : (x : ℕ) → areaOf (p .areas) a .start .0 ≤ x →
       x < areaOf (p .areas) a .start .0 + areaSize (p .«sub_areas») (p .«sub_area_count») a → (i : ℕ) × (y : ℕ) × Place p a x i y

@@ -3,7 +3,7 @@ ghost use mathlib.Core.Path.{_≡_};
 ghost use Prim.Native.Nat.{_+_, _-_, _≤_, _<_, min};
 ghost use Rattle.plan.specs.Questions.{sizeOf};
 ghost use Rattle.segment.specs.Mapping.{find, mapped};
-ghost use Rattle.segment.specs.Segments.{unitOf, retriesOf, burstOrUnit, segmentLength, segmentIn, noSegment, segmentOf, segmentAt};
+ghost use Rattle.segment.specs.Segments.{isLock, unitOf, retriesOf, burstOrUnit, segmentLength, segmentIn, noSegment, segmentOf, segmentAt};
 use memory::JobType;
 use memory::MemAddress;
 use memory::Task;
@@ -73,6 +73,20 @@ fn least(a: u64, b: u64) -> u64
         return a;
     }
     b
+}
+
+pub fn is_lock(kind: JobType) -> bool
+    ensures { λ r. ⌜ r ≡ isLock kind ⌝ }
+{
+    match kind {
+        JobType::Lock => true,
+        JobType::NoJob => false,
+        JobType::Write => false,
+        JobType::Read => false,
+        JobType::Compare => false,
+        JobType::Erase => false,
+        JobType::BlankCheck => false,
+    }
 }
 
 // The unit of an operation in a sub-area.
