@@ -1,2 +1,3 @@
 // The machine in code: what happens to one job, one device, one area.
 pub mod jobs;
+pub mod soundness;

@@ -2,29 +2,14 @@
 ghost use mathlib.Core.Path.{_≡_};
 ghost use Prim.Native.Nat.{_≤_};
 ghost use lib.ListN.{length, take};
-ghost use Rattle.plan.specs.Questions.{lengthSum};
 ghost use Rattle.session.specs.PlanText.{lineOf, planText};
 use manager::Manager;
-use plan::records::DeviceRecord;
+use plan::questions::device_sum;
 
 // The first `len` bytes are the text.
 pub struct Text {
     pub bytes: [u8; 2],
     pub len: usize,
-}
-
-fn device_sum(devices: [DeviceRecord; 4], count: usize) -> u64
-    requires { ⌜ count ≤ 4 ⌝ }
-    ensures { λ r. ⌜ r ≡ lengthSum devices count ⌝ }
-{
-    let mut sum: u64 = 0;
-    let mut i = 0;
-    while i < count {
-        let device = devices[i];
-        sum += device.length as u64;
-        i += 1;
-    }
-    sum
 }
 
 // One character and a line end.

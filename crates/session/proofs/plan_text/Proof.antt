@@ -11,7 +11,7 @@ use Rattle.session.proofs.plan_text.Reads as reads
 use Rattle.session.proofs.plan_text.Lts as lts
 use Rattle.manager.proofs.Manager.load.Reads as load-reads
 use Rattle.memory.proofs.Admission.number.Reads as number-reads
-use Rattle.session.proofs.device_sum.Reads as device-sum-reads
+use Rattle.plan.proofs.questions.device_sum.Reads as device-sum-reads
 use Rattle.session.proofs.line_of.Reads as line-of-reads
 
 -- src/lib.rt:45:9
@@ -60,7 +60,7 @@ returns-3 : tie.Need-returns-3
 returns-3 c =
     let n = c .before .before .before .before .before .before .before .number .ensures ∙ c .before .before .before .before .before .before .before .before .load .ensures .0 in
     let zero : loadNumber (c .before .before .before .before .before .before .before .before .before .before .before .args .bytes .now) ≡ 0 = omega (arith, n, c .before .before .before .before .before .before .if2 .left) in
-    let s = c .before .before .device-sum .ensures ∙ kept-sum _ _ (c .before .before .before .before .before .before .before .before .load .ensures .1) zero in
+    let s = c .before .before .device-sum .ensures .0 ∙ kept-sum _ _ (c .before .before .before .before .before .before .before .before .load .ensures .1) zero in
     (c .line-of3 .ensures .0 ∙ sym (text-sum _ (c .before .before .before .before .before .before .before .before .before .if1 .left) zero (omega (arith, s, c .before .if3 .taken))), c .line-of3 .ensures .1, c .line-of3 .ensures .2)
 
 -- src/lib.rt:41:1
@@ -68,7 +68,7 @@ returns-4 : tie.Need-returns-4
 returns-4 c =
     let n = c .before .before .before .before .before .before .number .ensures ∙ c .before .before .before .before .before .before .before .load .ensures .0 in
     let zero : loadNumber (c .before .before .before .before .before .before .before .before .before .before .args .bytes .now) ≡ 0 = omega (arith, n, c .before .before .before .before .before .if2 .left) in
-    let s = c .before .device-sum .ensures ∙ kept-sum _ _ (c .before .before .before .before .before .before .before .load .ensures .1) zero in
+    let s = c .before .device-sum .ensures .0 ∙ kept-sum _ _ (c .before .before .before .before .before .before .before .load .ensures .1) zero in
     (sym (text-accepted _ (c .before .before .before .before .before .before .before .before .if1 .left) zero (omega (arith, s, c .if3 .left))), omega arith, refl)
 
 pub plan-text-spec : {M : Type 1} → statement M

@@ -2,12 +2,12 @@ use Prim.Native.Nat.{ℕ, _-_, _*_, _≤_}
 use mathlib.Core.Path.{_≡_, refl, ap, _∙_}
 use native.Mathlib.Omega.{arith}
 use borrow.Author.Needs.{needs}
 use Rattle.plan.specs.Questions.{lengthSum}
 use Rattle.plan.specs.SizeLaws.{length-more}
-use Rattle.session.proofs.device_sum.Statement.{statement}
-use Rattle.session.proofs.device_sum.Tie as tie
-use Rattle.session.proofs.device_sum.Reads as reads
-use Rattle.session.proofs.device_sum.Lts as lts
+use Rattle.plan.proofs.questions.device_sum.Statement.{statement}
+use Rattle.plan.proofs.questions.device_sum.Tie as tie
+use Rattle.plan.proofs.questions.device_sum.Reads as reads
+use Rattle.plan.proofs.questions.device_sum.Lts as lts
 
 abbrev Inv-loop : tie.InvT-loop
 Inv-loop count devices sum₀ i₀ sum i = (i ≤ count) × (sum ≡ lengthSum devices i) × (sum ≤ i * 4294967295)
@@ -15,45 +15,45 @@ Inv-loop count devices sum₀ i₀ sum i = (i ≤ count) × (sum ≡ lengthSum d
 abbrev μ-loop : tie.MeasureT-loop
 μ-loop count devices sum₀ i₀ sum i = count - i
 
--- src/lib.rt:22:5
+-- src/questions.rt:22:5
 loop-holds : tie.Need-loop-holds Inv-loop μ-loop
 unfolding Rattle.arith.specs.Bounded.sum
 loop-holds c = (omega arith, refl, omega arith)
 
--- src/lib.rt:23:22
+-- src/questions.rt:23:22
 mul-device : tie.Need-mul-device Inv-loop μ-loop
 mul-device c = search needs
 
--- src/lib.rt:23:22
+-- src/questions.rt:23:22
 array-copy-out-device : tie.Need-array-copy-out-device Inv-loop μ-loop
 array-copy-out-device c = search needs
 
--- src/lib.rt:24:16
+-- src/questions.rt:24:16
 cast-sum : tie.Need-cast-sum Inv-loop μ-loop
 cast-sum c = search needs
 
--- src/lib.rt:24:9
+-- src/questions.rt:24:9
 add-sum : tie.Need-add-sum Inv-loop μ-loop
 add-sum c = search needs
 
--- src/lib.rt:25:9
+-- src/questions.rt:25:9
 add-i : tie.Need-add-i Inv-loop μ-loop
 add-i c = search needs
 
--- src/lib.rt:22:5
+-- src/questions.rt:22:5
 loop-less : tie.Need-loop-less Inv-loop μ-loop
 loop-less c = search needs
 
--- src/lib.rt:22:5
+-- src/questions.rt:22:5
 loop-again : tie.Need-loop-again Inv-loop μ-loop
 loop-again c =
     let l = c .before .before .before .loop in
     let longer = length-more (c .before .before .before .before .args .t1) (l .i) in
     (omega arith, omega arith, omega arith)
 
--- src/lib.rt:16:1
+-- src/questions.rt:16:1
 returns : tie.Need-returns Inv-loop μ-loop
-returns c = c .before .loop .inv .1 ∙ ap (λ (n : ℕ). lengthSum (c .before .before .args .t1) n) (omega arith)
+returns c = (c .before .loop .inv .1 ∙ ap (λ (n : ℕ). lengthSum (c .before .before .args .t1) n) (omega arith), omega arith)
 
 pub device-sum-spec : {M : Type 1} → statement M
 device-sum-spec =
