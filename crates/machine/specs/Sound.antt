@@ -1,10 +1,10 @@
 -- document 01, question 9, the soundness test: what it asks of one device. Every state that an accepted load leads to passes it; what it
 -- says of other states is our choice: it asks just what the code of a round rests on.
-use Prim.Native.Nat.{ℕ, _+_, _≤_}
-use mathlib.Core.Bool.{Bool, true, not, _&&_}
+use Prim.Native.Nat.{ℕ, _+_, _≤_, _<_}
+use mathlib.Core.Bool.{Bool, true, false, not, _&&_}
 use mathlib.Core.Path.{_≡_}
 use lib.Dec.{ltb, leb, eqb}
-use borrow.Author.Tests.{eq-eqb, le-leb}
+use borrow.Author.Tests.{eq-eqb, ne-eqb, le-leb, lt-leb}
 use Rattle.plan.specs.Questions.{areaOf, deviceOf, lengthSum}
 use Rattle.plan.specs.declared.records.Plan.{Plan}
 use Rattle.rules.specs.Admission.{usesWindow, ifAsked}
@@ -35,9 +35,27 @@ stateSound p d jobs (Runs a polls) =
     && (jobRuns (jobs a) polls (deviceOf (p .devices) d .«poll_limit»)
     && segmentFits p d a (jobs a) (segmentAt p a (jobs a .task) (jobs a .processed)))
 
--- where all but the window is right, the window decides
-pub window-decides : (p : Plan) (d a : ℕ) (j : Job) (s : Segment) → s .device ≡ d →
-    s .start .0 + s .length ≤ lengthSum (p .devices) (p .«device_count») → j .processed + s .length ≤ j .task .length →
-    usesWindow (j .task .kind) ≡ true → segmentFits p d a j s ≡ leb (j .processed + s .length) (areaOf (p .areas) a .window .length)
-unfolding segmentFits
-window-decides p d a j s e f g w = simp (eq-eqb _ _ e, le-leb _ _ f, le-leb _ _ g, w)
+-- the test by the cases that the code takes apart
+module _ (p : Plan) (d a : ℕ) (j : Job) (s : Segment) where
+  pub other-device : (s .device ≡ d → ⊥) → false ≡ segmentFits p d a j s
+  unfolding segmentFits
+  other-device h = rw (ne-eqb (s .device) d h)
+
+  module _ (here : s .device ≡ d) where
+    pub past-image : lengthSum (p .devices) (p .«device_count») < s .start .0 + s .length → false ≡ segmentFits p d a j s
+    unfolding segmentFits
+    past-image h = simp (eq-eqb _ _ here, lt-leb _ _ h)
+
+    module _ (inside : s .start .0 + s .length ≤ lengthSum (p .devices) (p .«device_count»)) where
+      pub past-job : j .task .length < j .processed + s .length → false ≡ segmentFits p d a j s
+      unfolding segmentFits
+      past-job h = simp (eq-eqb _ _ here, le-leb _ _ inside, lt-leb _ _ h)
+
+      module _ (left : j .processed + s .length ≤ j .task .length) where
+        pub no-window : usesWindow (j .task .kind) ≡ false → true ≡ segmentFits p d a j s
+        unfolding segmentFits
+        no-window w = simp (eq-eqb _ _ here, le-leb _ _ inside, le-leb _ _ left, w)
+
+        pub window-decides : usesWindow (j .task .kind) ≡ true → leb (j .processed + s .length) (areaOf (p .areas) a .window .length) ≡ segmentFits p d a j s
+        unfolding segmentFits
+        window-decides w = simp (eq-eqb _ _ here, le-leb _ _ inside, le-leb _ _ left, w)

@@ -26,14 +26,17 @@ pub fn job_runs(job: Job, polls: u16, limit: u16) -> bool
 
 pub fn segment_fits(plan: Plan, device: usize, area: usize, job: Job, segment: Segment) -> bool
     requires { ⌜ (plan .«device_count» ≤ 4) × (area < 8) ⌝ }
-    requires { ⌜ segment .start .0 + segment .length ≤ 18446744073709551615 ⌝ }
     ensures { λ r. ⌜ r ≡ segmentFits plan device area job segment ⌝ }
 {
     if segment.device as usize != device {
         return false;
     }
     let devices = plan.devices;
-    if device_sum(devices, plan.device_count) < segment.start.0 + segment.length {
+    let sum = device_sum(devices, plan.device_count);
+    if sum < segment.start.0 {
+        return false;
+    }
+    if sum - segment.start.0 < segment.length {
         return false;
     }
     let task = job.task;

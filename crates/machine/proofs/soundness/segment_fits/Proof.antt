@@ -1,7 +1,7 @@
-use Rattle.machine.specs.Sound.{window-decides}
+use Rattle.machine.specs.Sound.{other-device, past-image, past-job, no-window, window-decides}
+use borrow.Author.Tests.{not-true, not-false}
 use native.Mathlib.Omega.{arith}
 use mathlib.Core.Path.{sym, _∙_}
-use borrow.Author.Tests.{eq-eqb, le-leb, lt-leb, ne-eqb, not-false, not-true}
 use borrow.Author.Needs.{needs}
 use Rattle.machine.proofs.soundness.segment_fits.Statement.{statement}
 use Rattle.machine.proofs.soundness.segment_fits.Tie as tie
@@ -10,69 +10,65 @@ use Rattle.machine.proofs.soundness.segment_fits.Lts as lts
 use Rattle.admission.proofs.uses_window.Reads as uses-window-reads
 use Rattle.plan.proofs.questions.device_sum.Reads as device-sum-reads
 
--- src/soundness.rt:32:8
+-- src/soundness.rt:31:8
 cast-if1 : tie.Need-cast-if1
 cast-if1 c = search needs
 
--- src/soundness.rt:33:9
+-- src/soundness.rt:32:9
 returns : tie.Need-returns
-unfolding Rattle.machine.specs.Sound.segmentFits
-returns c = simp (ne-eqb _ _ (c .if1 .taken))
+returns c = other-device (c .before .before .args .t1) (c .before .before .args .device) (c .before .before .args .area) (c .before .before .args .job) (c .before .before .args .segment) (c .if1 .taken)
 
--- src/soundness.rt:36:8
+-- src/soundness.rt:35:9
 device-sum-requires : tie.Need-device-sum-requires
 device-sum-requires c κs = search needs
 
--- src/soundness.rt:36:49
-add-if2 : tie.Need-add-if2
-add-if2 c = search needs
-
 -- src/soundness.rt:37:9
 returns-2 : tie.Need-returns-2
-unfolding Rattle.machine.specs.Sound.segmentFits
-returns-2 c = simp (lt-leb _ _ (c .if2 .taken), ← (c .before .before .device-sum .ensures .0), eq-eqb _ _ (c .before .before .before .before .if1 .left))
+returns-2 c = past-image (c .before .before .before .before .before .before .args .t1) (c .before .before .before .before .before .before .args .device) (c .before .before .before .before .before .before .args .area) (c .before .before .before .before .before .before .args .job) (c .before .before .before .before .before .before .args .segment) (c .before .before .before .before .if1 .left) (omega (arith, c .before .before .device-sum .ensures .0, c .if2 .taken))
 
--- src/soundness.rt:40:17
+-- src/soundness.rt:40:9
+returns-3 : tie.Need-returns-3
+returns-3 c = past-image (c .before .before .before .before .before .before .before .before .before .args .t1) (c .before .before .before .before .before .before .before .before .before .args .device) (c .before .before .before .before .before .before .before .before .before .args .area) (c .before .before .before .before .before .before .before .before .before .args .job) (c .before .before .before .before .before .before .before .before .before .args .segment) (c .before .before .before .before .before .before .before .if1 .left) (omega (arith, c .before .before .before .before .before .device-sum .ensures .0, c .before .before .before .if2 .left, c .if3 .taken))
+
+-- src/soundness.rt:43:17
 cast-upto : tie.Need-cast-upto
 cast-upto c = search needs
 
--- src/soundness.rt:40:16
+-- src/soundness.rt:43:16
 add-upto : tie.Need-add-upto
 add-upto c = search needs
 
--- src/soundness.rt:41:9
-cast-if3 : tie.Need-cast-if3
-cast-if3 c = search needs
-
--- src/soundness.rt:42:9
-returns-3 : tie.Need-returns-3
-unfolding Rattle.machine.specs.Sound.segmentFits
-returns-3 c = simp (lt-leb _ _ (c .if3 .taken), le-leb _ _ (c .before .before .before .before .before .if2 .left), ← (c .before .before .before .before .before .before .before .device-sum .ensures .0), eq-eqb _ _ (c .before .before .before .before .before .before .before .before .before .if1 .left))
+-- src/soundness.rt:44:9
+cast-if4 : tie.Need-cast-if4
+cast-if4 c = search needs
 
 -- src/soundness.rt:45:9
+returns-4 : tie.Need-returns-4
+returns-4 c = past-job (c .before .before .before .before .before .before .before .before .before .before .before .before .before .before .args .t1) (c .before .before .before .before .before .before .before .before .before .before .before .before .before .before .args .device) (c .before .before .before .before .before .before .before .before .before .before .before .before .before .before .args .area) (c .before .before .before .before .before .before .before .before .before .before .before .before .before .before .args .job) (c .before .before .before .before .before .before .before .before .before .before .before .before .before .before .args .segment) (c .before .before .before .before .before .before .before .before .before .before .before .before .if1 .left) (omega (arith, c .before .before .before .before .before .before .before .before .before .before .device-sum .ensures .0, c .before .before .before .before .before .before .before .before .if2 .left, c .before .before .before .before .before .if3 .left)) (c .if4 .taken)
+
+-- src/soundness.rt:48:9
 uses-window-requires : tie.Need-uses-window-requires
 uses-window-requires c κs = search needs
 
--- src/soundness.rt:46:9
-returns-4 : tie.Need-returns-4
-unfolding Rattle.machine.specs.Sound.segmentFits
-returns-4 c = simp (not-true (c .before .uses-window .result) (c .if4 .taken), ← (c .before .uses-window .ensures), le-leb _ _ (c .before .before .if3 .left), le-leb _ _ (c .before .before .before .before .before .before .before .if2 .left), ← (c .before .before .before .before .before .before .before .before .before .device-sum .ensures .0), eq-eqb _ _ (c .before .before .before .before .before .before .before .before .before .before .before .if1 .left))
+-- src/soundness.rt:49:9
+returns-5 : tie.Need-returns-5
+returns-5 c = no-window (c .before .before .before .before .before .before .before .before .before .before .before .before .before .before .before .before .args .t1) (c .before .before .before .before .before .before .before .before .before .before .before .before .before .before .before .before .args .device) (c .before .before .before .before .before .before .before .before .before .before .before .before .before .before .before .before .args .area) (c .before .before .before .before .before .before .before .before .before .before .before .before .before .before .before .before .args .job) (c .before .before .before .before .before .before .before .before .before .before .before .before .before .before .before .before .args .segment) (c .before .before .before .before .before .before .before .before .before .before .before .before .before .before .if1 .left) (omega (arith, c .before .before .before .before .before .before .before .before .before .before .before .before .device-sum .ensures .0, c .before .before .before .before .before .before .before .before .before .before .if2 .left, c .before .before .before .before .before .before .before .if3 .left)) (c .before .before .if4 .left) (sym (c .before .uses-window .ensures) ∙ not-true (c .before .uses-window .result) (c .if5 .taken))
 
--- src/soundness.rt:48:18
+-- src/soundness.rt:51:18
 mul-record : tie.Need-mul-record
 mul-record c = search needs
 
--- src/soundness.rt:48:18
+-- src/soundness.rt:51:18
 element-copy-out-record : tie.Need-element-copy-out-record
 element-copy-out-record c = search needs
 
--- src/soundness.rt:49:13
+-- src/soundness.rt:52:13
 cast-result : tie.Need-cast-result
 cast-result c = search needs
 
 -- src/soundness.rt:27:1
-returns-5 : tie.Need-returns-5
-returns-5 c = sym (window-decides (c .before .before .before .before .before .before .before .before .before .before .before .before .before .before .before .args .t1) (c .before .before .before .before .before .before .before .before .before .before .before .before .before .before .before .args .device) (c .before .before .before .before .before .before .before .before .before .before .before .before .before .before .before .args .area) (c .before .before .before .before .before .before .before .before .before .before .before .before .before .before .before .args .job) (c .before .before .before .before .before .before .before .before .before .before .before .before .before .before .before .args .segment) (c .before .before .before .before .before .before .before .before .before .before .before .before .before .if1 .left) (omega (arith, c .before .before .before .before .before .before .before .before .before .before .before .device-sum .ensures .0, c .before .before .before .before .before .before .before .before .before .if2 .left)) (c .before .before .before .before .if3 .left) (sym (c .before .before .before .uses-window .ensures) ∙ not-false (c .before .before .before .uses-window .result) (c .before .before .if4 .left)))
+returns-6 : tie.Need-returns-6
+returns-6 c = window-decides (c .before .before .before .before .before .before .before .before .before .before .before .before .before .before .before .before .before .before .args .t1) (c .before .before .before .before .before .before .before .before .before .before .before .before .before .before .before .before .before .before .args .device) (c .before .before .before .before .before .before .before .before .before .before .before .before .before .before .before .before .before .before .args .area) (c .before .before .before .before .before .before .before .before .before .before .before .before .before .before .before .before .before .before .args .job) (c .before .before .before .before .before .before .before .before .before .before .before .before .before .before .before .before .before .before .args .segment) (c .before .before .before .before .before .before .before .before .before .before .before .before .before .before .before .before .if1 .left) (omega (arith, c .before .before .before .before .before .before .before .before .before .before .before .before .before .before .device-sum .ensures .0, c .before .before .before .before .before .before .before .before .before .before .before .before .if2 .left, c .before .before .before .before .before .before .before .before .before .if3 .left)) (c .before .before .before .before .if4 .left) (sym (c .before .before .before .uses-window .ensures) ∙ not-false (c .before .before .before .uses-window .result) (c .before .before .if5 .left))
 
 pub segment-fits-spec : {M : Type 1} → statement M
 segment-fits-spec =
@@ -81,15 +77,15 @@ segment-fits-spec =
     cast-if1
     returns
     device-sum-requires
-    add-if2
     returns-2
+    returns-3
     cast-upto
     add-upto
-    cast-if3
-    returns-3
-    uses-window-requires
+    cast-if4
     returns-4
+    uses-window-requires
+    returns-5
     mul-record
     element-copy-out-record
     cast-result
-    returns-5)
+    returns-6)
