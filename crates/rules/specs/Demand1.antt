@@ -1,0 +1,165 @@
+-- document 00, demand 1: "The lent memory, which is the chip image and the job store, changes only in a round, and only inside
+-- requests that the round finishes and the rules of document 01 let change it. [..] a refused call leaves image, store and
+-- manager as they were."
+use Prim.Native.Nat.{ℕ, _+_, _-_, _≤_, _<_}
+use mathlib.Core.Bool.{false, true≢false}
+use mathlib.Core.List.{List}
+use mathlib.Core.Logic.{_≢_, _⊎_, inl, inr}
+use mathlib.Core.Path.{_≡_, refl, sym, ap, subst, _∙_}
+use native.Mathlib.Omega.{arith}
+use borrow.Author.Tests.{ne-eqb}
+use lib.Dec.{eqb}
+use lib.ListN.{length, getD}
+use Rattle.arith.specs.Cases.{pick}
+use Rattle.memory.specs.declared.DeviceAnswer.{DeviceAnswer}
+use Rattle.memory.specs.declared.DeviceAnswer.the-variants as Answers
+use Rattle.plan.specs.Questions.{areaOf}
+use Rattle.plan.specs.WellFormed.{Among, WellFormed}
+use Rattle.plan.specs.declared.records.Plan.{Plan}
+use Rattle.segment.specs.Bytes.{bytesOf, mappedByte, mappedBytes}
+use Rattle.segment.specs.BytesLaws.{segment-bytes}
+use Rattle.segment.specs.declared.Segment.{Segment}
+use Rattle.state.specs.declared.DeviceState.the-variants.{Runs}
+use Rattle.rules.specs.Admission.{roundNumber, admits}
+use Rattle.rules.specs.Changes.{Change, Within, MadeAll, changed-by}
+use Rattle.rules.specs.History.{Call, submit, releases, cancels, asks, round, History, step}
+use Rattle.rules.specs.Layout.{layoutOf}
+use Rattle.rules.specs.ListLaws.{listed-at}
+use Rattle.rules.specs.Machine.{Core}
+use Rattle.rules.specs.Memory.{Memory}
+use Rattle.rules.specs.Reach.{actedBytes, broughtBytes, requestOf, roundMemory, AtCuts, ImageActed, imageValue, StoreActed, storeValue}
+use Rattle.rules.specs.Reach.{callNumber, isRound}
+use Rattle.rules.specs.Reachable.{Reachable}
+use Rattle.rules.specs.RequestBytes.{Request, imageChange, storeChange, image-own, store-own, After}
+use Rattle.rules.specs.Requests.{requestFor, requestOn, requestAt, emptyRequest, Placed, placed, by-request}
+use Rattle.rules.specs.Round.{answerOf, roundHalves}
+use Rattle.rules.specs.Session.{memoryOf}
+use Rattle.rules.specs.TakeLaws.{taken}
+
+-- a number that is not 0 picks what was before
+pick-refused : {A : Type 0} (n : ℕ) (x y : A) → n ≢ 0 → pick (eqb n 0) x y ≡ y
+pick-refused n x y f = rw (ne-eqb n 0 f)
+
+-- "a refused call leaves [..] manager as they were"
+pub refused-keeps : (p : Plan) (k : Call) (h : History) → callNumber p k h ≢ 0 → step p k h ≡ h
+unfolding step
+refused-keeps p (submit a t) h f = pick-refused _ _ h f
+refused-keeps p (releases a address n) h f = pick-refused _ _ h f
+refused-keeps p (cancels a) h f = pick-refused _ _ h f
+refused-keeps p (asks q) h f = refl
+refused-keeps p (round answers m) h f = pick-refused _ _ h f
+
+-- image and store stay as they were where the call is refused or is no round
+pub memory-kept : (p : Plan) (k : Call) (h : History) (m : Memory) → (callNumber p k h ≢ 0) ⊎ (isRound k ≡ false) → memoryOf p k h m ≡ m
+memory-kept p (submit a t) h m f = refl
+memory-kept p (releases a address n) h m f = refl
+memory-kept p (cancels a) h m f = refl
+memory-kept p (asks q) h m f = refl
+memory-kept p (round answers n) h m (inl f) = pick-refused _ _ m f
+memory-kept p (round answers n) h m (inr e) = absurd (true≢false e)
+
+-- where device d runs area a, the changes made are those of area a's request too
+made-by : (p : Plan) (c : Core) (change : ℕ → Request → Change) (n : ℕ) (l l' : List ℕ) → MadeAll (λ d. change d (requestAt p c d)) n l l' →
+    (d a q x : ℕ) → d < n → c .devices d ≡ Runs a q → Within (change d (requestFor p a (c .jobs a))) x →
+    getD l' x 0 ≡ change d (requestFor p a (c .jobs a)) .value x
+made-by p c change n l l' all d a q x h e =
+    subst (λ s. Within (change d (requestOn p s (c .jobs))) x → getD l' x 0 ≡ change d (requestOn p s (c .jobs)) .value x) e (all .inside d h x)
+
+module _ (p : Plan) (c : Core) (answers : List DeviceAnswer) where
+  -- the bytes that device d's request changes are bytes that it acts on
+  image-by : (m : Memory) (d x : ℕ) → d < p .«device_count» → Within (imageChange (answerOf answers d) (requestAt p c d) m) x →
+      ImageActed p c answers x d
+  image-by m d x h =
+      by-request p c (λ r. Within (imageChange (answerOf answers d) r m) x → ImageActed p c answers x d) d
+      (λ u. absurd (omega (arith, image-own (answerOf answers d) emptyRequest x u)))
+      (λ a q e u. record { known = h; area = a; polls = q; runs = e; inside = u })
+
+  -- the same for the store
+  store-by : (m : Memory) (d x : ℕ) → d < p .«device_count» → Within (storeChange (answerOf answers d) (requestAt p c d) m) x →
+      StoreActed p c answers x d
+  store-by m d x h =
+      by-request p c (λ r. Within (storeChange (answerOf answers d) r m) x → StoreActed p c answers x d) d
+      (λ u. absurd (omega (arith, store-own (answerOf answers d) emptyRequest x u .1)))
+      (λ a q e u. record { known = h; area = a; polls = q; runs = e; inside = u })
+
+  -- "inside requests that the round finishes": the answer to a request that acts on an image byte is not pending
+  pub image-finished : (x d : ℕ) → ImageActed p c answers x d → answerOf answers d ≢ Answers.Pending
+  image-finished x d h e = omega (arith, ap (λ y. actedBytes y (c .jobs (h .area) .task .kind) (requestOf p c (h .area) .length)) e)
+
+  -- the same for the store
+  pub store-finished : (x d : ℕ) → StoreActed p c answers x d → answerOf answers d ≢ Answers.Pending
+  store-finished x d h e = omega (arith, ap (λ y. broughtBytes y (c .jobs (h .area) .task .kind) (requestOf p c (h .area) .length)) e)
+
+module _ (p : Plan) (w : WellFormed p) (c : Core) (reach : Reachable (layoutOf p) (admits p) c) (cuts : AtCuts p c)
+    (answers : List DeviceAnswer) where
+  -- byte k of a request is the mapped byte that lies k behind the processed ones
+  request-byte : {a : ℕ} → Placed p c a → (k : ℕ) → k < requestOf p c a .length →
+      mappedByte p a (c .jobs a .task) (c .jobs a .processed + k) ≡ requestOf p c a .start .0 + k
+  unfolding layoutOf bytesOf mappedBytes
+  request-byte {a} g k h =
+      sym (listed-at 0 _ (c .jobs a .processed) _ k h)
+      ∙ sym (ap (λ l. getD l k 0) (segment-bytes p w a (c .jobs a .task) (g .job) (g .cut) (g .more)))
+      ∙ listed-at 0 (λ i. i) _ _ k h
+
+  -- "Which bytes can an update job reach": of the image, the job's mapped bytes
+  pub image-reach : (x d : ℕ) (h : ImageActed p c answers x d) →
+      (k : ℕ) × (k < c .jobs (h .area) .task .length) × (mappedByte p (h .area) (c .jobs (h .area) .task) k ≡ x)
+  image-reach x d h =
+      let a = h .area in
+      let g = placed p w c reach cuts (h .runs) in
+      let own = image-own (answerOf answers d) (requestFor p a (c .jobs a)) x (h .inside) in
+      let k = x - requestOf p c a .start .0 in
+      (c .jobs a .processed + k, omega (arith, g .good .length-most), omega (arith, request-byte g k (omega arith)))
+
+  -- of the store, the part of its window that is as long as the job
+  pub store-reach : (x d : ℕ) (h : StoreActed p c answers x d) →
+      Among (areaOf (p .areas) (h .area) .window .start) (c .jobs (h .area) .task .length) x
+      × (c .jobs (h .area) .task .length ≤ areaOf (p .areas) (h .area) .window .length)
+  store-reach x d h =
+      let g = placed p w c reach cuts (h .runs) in
+      let own = store-own (answerOf answers d) (requestFor p (h .area) (c .jobs (h .area))) x (h .inside) in
+      (omega (arith, g .good .length-most, own .1), g .window (own .0))
+
+  module _ (m : Memory) (accepted : roundNumber p (m .image) (m .store) ≡ 0) (done : ℕ → List Segment) where
+    -- the round makes the changes of all devices' requests
+    round-after : After (requestAt p c) (answerOf answers) m (p .«device_count») (roundMemory p c answers m done)
+    unfolding roundHalves
+    round-after = taken p w c reach cuts answers m accepted done (p .«device_count») .after
+
+    -- the image keeps its length
+    pub image-length : length (roundMemory p c answers m done .image) ≡ length (m .image)
+    image-length = round-after .image .same-length
+
+    -- so does the store
+    pub store-length : length (roundMemory p c answers m done .store) ≡ length (m .store)
+    store-length = round-after .store .same-length
+
+    -- an image byte that is acted on becomes what the rules say
+    pub image-acted : (x d : ℕ) (h : ImageActed p c answers x d) → getD (roundMemory p c answers m done .image) x 0 ≡ imageValue p c m (h .area) x
+    image-acted x d h =
+        made-by p c (λ e r. imageChange (answerOf answers e) r m) _ _ _ (round-after .image) d (h .area) (h .polls) x (h .known) (h .runs) (h .inside)
+
+    -- any other image byte stays
+    pub image-kept : (x : ℕ) → ((d : ℕ) → ImageActed p c answers x d → ⊥) → getD (roundMemory p c answers m done .image) x 0 ≡ getD (m .image) x 0
+    image-kept x f = round-after .image .outside x (λ d h u. f d (image-by p c answers m d x h u))
+
+    -- so an image byte that changes is acted on
+    pub image-changed : (x : ℕ) → getD (roundMemory p c answers m done .image) x 0 ≢ getD (m .image) x 0 → (d : ℕ) × ImageActed p c answers x d
+    image-changed x f =
+        let (d, h, u) = changed-by (round-after .image) x f in
+        (d, image-by p c answers m d x h u)
+
+    -- a store byte that is acted on becomes what the rules say
+    pub store-acted : (x d : ℕ) (h : StoreActed p c answers x d) → getD (roundMemory p c answers m done .store) x 0 ≡ storeValue p c m (h .area) x
+    store-acted x d h =
+        made-by p c (λ e r. storeChange (answerOf answers e) r m) _ _ _ (round-after .store) d (h .area) (h .polls) x (h .known) (h .runs) (h .inside)
+
+    -- any other store byte stays
+    pub store-kept : (x : ℕ) → ((d : ℕ) → StoreActed p c answers x d → ⊥) → getD (roundMemory p c answers m done .store) x 0 ≡ getD (m .store) x 0
+    store-kept x f = round-after .store .outside x (λ d h u. f d (store-by p c answers m d x h u))
+
+    -- so a store byte that changes is acted on
+    pub store-changed : (x : ℕ) → getD (roundMemory p c answers m done .store) x 0 ≢ getD (m .store) x 0 → (d : ℕ) × StoreActed p c answers x d
+    store-changed x f =
+        let (d, h, u) = changed-by (round-after .store) x f in
+        (d, store-by p c answers m d x h u)

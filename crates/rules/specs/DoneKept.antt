@@ -1,0 +1,122 @@
+-- Every call keeps what holds of the areas' latest jobs and their done requests.
+use Prim.Native.Nat.{ℕ, zero, suc, _+_}
+use mathlib.Core.Bool.{Bool, true, false, true≢false, false≢true}
+use mathlib.Core.List.{List, [], _∷_}
+use mathlib.Core.Path.{_≡_, refl, sym, ap, _∙_}
+use native.Mathlib.Nat.{le-refl}
+use native.Mathlib.Omega.{arith}
+use lib.Dec.{ltb}
+use Rattle.arith.specs.Listed.{listed}
+use Rattle.arith.specs.Parts.{upd, upd-same, upd-other, same-or}
+use Rattle.memory.specs.declared.DeviceAnswer.{DeviceAnswer}
+use Rattle.memory.specs.declared.Task.{Task}
+use Rattle.plan.specs.WellFormed.{WellFormed}
+use Rattle.plan.specs.declared.records.Plan.{Plan}
+use Rattle.segment.specs.Bytes.{joined, mappedBytes}
+use Rattle.segment.specs.CutLaws.{at-start}
+use Rattle.segment.specs.SegmentLaws.{Admitted}
+use Rattle.segment.specs.declared.Segment.{Segment}
+use Rattle.state.specs.declared.DeviceState.the-variants.{Runs}
+use Rattle.state.specs.declared.Job.{Job}
+use Rattle.rules.specs.Admission.{admits, jobNumber, releaseNumber, cancelNumber, roundNumber}
+use Rattle.rules.specs.History.{Call, submit, releases, cancels, asks, round, History, start, roundOf, submitted, step, run}
+use Rattle.rules.specs.Layout.{layoutOf}
+use Rattle.rules.specs.Machine.{Core, isPending, begun, ended, cancelled, secondHalf, isOwn, waitOf, cancelIf, cancel, begin, release}
+use Rattle.rules.specs.PlanLaws.{admitted, job-admitted}
+use Rattle.rules.specs.Reachable.{Reachable}
+use Rattle.rules.specs.Round.{Half, answerOf, verdictOn, takeAll, roundHalves}
+use Rattle.rules.specs.StepLaws.{lent, take-case, running, untouched, start-case, accept-case, cancel-pending}
+use Rattle.rules.specs.Done.{DoneFits, begun-fits, ended-fits, cancelled-fits, taken-fits}
+
+-- of every area
+abbrev pub AllFit : Plan → (ℕ → Job) → (ℕ → List Segment) → Type 0
+AllFit p jobs done = (a : ℕ) → DoneFits p a (jobs a) (done a)
+
+-- in a history
+abbrev pub Fits : Plan → History → Type 0
+Fits p h = AllFit p (h .core .jobs) (h .done)
+
+-- area b's job becomes k
+job-fits : (p : Plan) (b : ℕ) {jobs : ℕ → Job} {done : ℕ → List Segment} {k : Job} → AllFit p jobs done → DoneFits p b k (done b) →
+    AllFit p (upd jobs b k) done
+job-fits p b {jobs} {done} {k} f g a =
+    same-or (λ a. DoneFits p a (upd jobs b k a) (done a)) b a (rw upd-same g) (λ h. rw upd-other (f a))
+
+module _ (p : Plan) (w : WellFormed p) where
+  -- the first half keeps it
+  first-half-fits : (answers : List DeviceAnswer) (h : Half) → Reachable (layoutOf p) (admits p) (h .core) → AllFit p (h .core .jobs) (h .done) →
+      (n : ℕ) → let e = takeAll p answers n h in AllFit p (e .core .jobs) (e .done)
+  unfolding takeAll
+  first-half-fits answers h r f zero = f
+  first-half-fits answers h r f (suc n) = λ a.
+      let ih = first-half-fits answers h r f n in
+      let before = takeAll p answers n h in
+      let x = answerOf answers n in
+      let same = untouched p answers h r n n (le-refl n) in
+      take-case p n x before a (DoneFits p a)
+      (λ q e.
+      let runs = sym (same .device) ∙ e in
+      taken-fits p a w (verdictOn p (Runs a q) x (before .core .jobs) (before .memory)) (ltb (q + 1) (layoutOf p .limit n))
+      (ap isPending (same .job a q runs) ∙ running r n runs .pending) (ih a))
+      (ih a)
+
+  -- and so does the second
+  second-half-fits : (n : ℕ) (c : Core) (done : ℕ → List Segment) → AllFit p (c .jobs) done → AllFit p (secondHalf (layoutOf p) n c .jobs) done
+  unfolding secondHalf
+  second-half-fits zero c done f = f
+  second-half-fits (suc n) c done f =
+      let ih = second-half-fits n c done f in
+      start-case (λ e. AllFit p (e .jobs) done) (layoutOf p) n (secondHalf (layoutOf p) n c) ih
+      (λ b _ _ k. job-fits p b ih (ended-fits p b 0 (λ _ e. absurd (true≢false (sym k ∙ e))) (ih b)))
+      (λ b _. ih)
+
+  -- a job is accepted
+  submitted-fits : (b : ℕ) (t : Task) (h : History) → Admitted p b t → Fits p h → Fits p (submitted p b t h)
+  unfolding submitted begin
+  submitted-fits b t h g f = λ a.
+      same-or (λ a. DoneFits p a (upd (h .core .jobs) b (begun (layoutOf p) b t (h .core .jobs b)) a) (upd (h .done) b [] a)) b a
+      (simp upd-same (begun-fits p b t (h .core .jobs b) g))
+      (λ k. simp upd-other (f a))
+
+  -- a job is cancelled
+  cancel-fits : (b : ℕ) (c : Core) (done : ℕ → List Segment) → isPending (c .jobs b) ≡ true → AllFit p (c .jobs) done →
+      AllFit p (cancel (layoutOf p) b c .jobs) done
+  unfolding cancel
+  cancel-fits b c done h f = go (isOwn (waitOf (layoutOf p) c b))
+    where
+      go : (t : Bool) → AllFit p (cancelIf t b c .jobs) done
+      go true = job-fits p b f (cancelled-fits p b h (f b))
+      go false = job-fits p b f (ended-fits p b 3 (λ e. absurd (omega arith)) (f b))
+
+  -- every call keeps it
+  pub done-kept : (c : Call) (h : History) → Reachable (layoutOf p) (admits p) (h .core) → Fits p h → Fits p (step p c h)
+  unfolding step roundOf roundHalves release
+  done-kept (submit a t) h r f =
+      accept-case (Fits p) (jobNumber p (h .core) a t)
+      (λ e. let known = job-admitted p (h .core) a t e in submitted-fits a t h (admitted p a t (known .0) (known .2)) f)
+      f
+  done-kept (releases a address n) h r f = accept-case (Fits p) (releaseNumber p (h .core) a address n) (λ _. f) f
+  done-kept (cancels a) h r f =
+      accept-case (Fits p) (cancelNumber p (h .core) a) (λ e. cancel-fits a (h .core) (h .done) (cancel-pending p (h .core) a e) f) f
+  done-kept (asks q) h r f = f
+  done-kept (round answers m) h r f =
+      accept-case (Fits p) (roundNumber p (m .image) (m .store))
+      (λ _. second-half-fits (p .«device_count») _ _ (first-half-fits answers (lent m h) r f (p .«device_count»)))
+      f
+
+  -- at the start
+  pub start-fits : Fits p start
+  unfolding start joined mappedBytes listed
+  start-fits a =
+      record { cut = at-start; joined-is = refl; admitted = λ e. absurd (omega arith); more = λ e. absurd (false≢true e); complete = λ _ _ _. refl }
+
+  -- every list of calls keeps it
+  run-fits : (cs : List Call) (h : History) → ((ds : List Call) → Reachable (layoutOf p) (admits p) (run p ds h .core)) → Fits p h →
+      Fits p (run p cs h)
+  unfolding run
+  run-fits [] h r f = f
+  run-fits (c ∷ cs) h r f = run-fits cs (step p c h) (λ ds. r (c ∷ ds)) (done-kept c h (r []) f)
+
+  -- and so it holds after every list of calls
+  pub done-fits : ((cs : List Call) → Reachable (layoutOf p) (admits p) (run p cs start .core)) → (cs : List Call) → Fits p (run p cs start)
+  done-fits reached cs = run-fits cs start reached start-fits

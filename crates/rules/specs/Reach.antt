@@ -1,0 +1,129 @@
+-- document 00, demand 1: which bytes of image and store a round changes and what they become, and the number that a call gets
+use Prim.Native.Nat.{ℕ, _+_, _-_, _<_, min}
+use mathlib.Core.Bool.{Bool, true, false}
+use mathlib.Core.List.{List}
+use mathlib.Core.Path.{_≡_}
+use lib.ListN.{getD}
+use Rattle.memory.specs.declared.DeviceAnswer.{DeviceAnswer}
+use Rattle.memory.specs.declared.DeviceAnswer.the-variants as Answers
+use Rattle.memory.specs.declared.JobType.{JobType}
+use Rattle.memory.specs.declared.JobType.the-variants.{NoJob, Write, Read, Compare, Erase, BlankCheck, Lock}
+use Rattle.plan.specs.WellFormed.{Among}
+use Rattle.plan.specs.declared.records.Plan.{Plan}
+use Rattle.segment.specs.CutLaws.{Cut}
+use Rattle.segment.specs.Segments.{segmentAt}
+use Rattle.segment.specs.declared.Segment.{Segment}
+use Rattle.state.specs.declared.DeviceState.the-variants.{Runs}
+use Rattle.rules.specs.Admission.{jobNumber, releaseNumber, cancelNumber, infoNumber, memoryInfoNumber, roundNumber}
+use Rattle.rules.specs.History.{Query, status, result, processed, jobInfo, memoryInfo, Call, submit, releases, cancels, asks, round, History}
+use Rattle.rules.specs.Layout.{layoutOf}
+use Rattle.rules.specs.Machine.{Core, isPending, due}
+use Rattle.rules.specs.Memory.{Memory}
+use Rattle.rules.specs.Round.{answerOf, windowPlace, roundHalves}
+
+-- How many of n image bytes a job type acts on. "Done compare or blank check changes no memory"
+abbrev pub imageBytes : JobType → ℕ → ℕ
+imageBytes Write n = n
+imageBytes Erase n = n
+imageBytes Read n = 0
+imageBytes Compare n = 0
+imageBytes BlankCheck n = 0
+imageBytes Lock n = 0
+imageBytes NoJob n = 0
+
+-- How many of n window bytes: "Done read: the window part becomes the image bytes."
+abbrev pub windowBytes : JobType → ℕ → ℕ
+windowBytes Read n = n
+windowBytes Write n = 0
+windowBytes Erase n = 0
+windowBytes Compare n = 0
+windowBytes BlankCheck n = 0
+windowBytes Lock n = 0
+windowBytes NoJob n = 0
+
+-- How many image bytes a request of n bytes acts on with an answer. "Failed: a write or erase has acted on its first k bytes
+-- (all if k is larger), nothing else has changed"
+abbrev pub actedBytes : DeviceAnswer → JobType → ℕ → ℕ
+actedBytes Answers.Pending k n = 0
+actedBytes Answers.Done k n = imageBytes k n
+actedBytes (Answers.Failed b) k n = imageBytes k (min b n)
+
+-- how many window bytes it brings
+abbrev pub broughtBytes : DeviceAnswer → JobType → ℕ → ℕ
+broughtBytes Answers.Pending k n = 0
+broughtBytes Answers.Done k n = windowBytes k n
+broughtBytes (Answers.Failed b) k n = 0
+
+-- What an image byte that is acted on becomes, where b is the window byte. "Done write: the image part becomes the window
+-- bytes. Done erase: 255 throughout." The other job types act on none.
+abbrev pub actedByte : JobType → ℕ → ℕ
+actedByte Write b = b
+actedByte Erase b = 255
+actedByte Read b = 0
+actedByte Compare b = 0
+actedByte BlankCheck b = 0
+actedByte Lock b = 0
+actedByte NoJob b = 0
+
+-- the request of area a, where it runs: the segment that is due
+abbrev pub requestOf : Plan → Core → ℕ → Segment
+requestOf p c a = due (layoutOf p) a (c .jobs a)
+
+-- image and store after a round that is accepted
+abbrev pub roundMemory : Plan → Core → List DeviceAnswer → Memory → (ℕ → List Segment) → Memory
+roundMemory p c answers m done = roundHalves p answers (record { core = c; memory = m; done = done }) .memory
+
+-- In a round with these answers, byte x of the image is acted on by the request that device d runs. Core c is that before the
+-- round.
+pub record ImageActed (p : Plan) (c : Core) (answers : List DeviceAnswer) (x d : ℕ) : Type 0 where
+  pub known : d < p .«device_count»
+  pub area : ℕ
+  pub polls : ℕ
+  pub runs : c .devices d ≡ Runs area polls
+  pub inside : Among (requestOf p c area .start .0) (actedBytes (answerOf answers d) (c .jobs area .task .kind) (requestOf p c area .length)) x
+
+-- It becomes this: "Window bytes are those of this moment, at the processed length from the window's start". Memory m is that
+-- before the round.
+abbrev pub imageValue : Plan → Core → Memory → ℕ → ℕ → ℕ
+imageValue p c m a x =
+    actedByte (c .jobs a .task .kind) (getD (m .store) (windowPlace p a (c .jobs a) + (x - requestOf p c a .start .0)) 0)
+
+-- In a round with these answers, byte x of the store is brought by the request that device d runs.
+pub record StoreActed (p : Plan) (c : Core) (answers : List DeviceAnswer) (x d : ℕ) : Type 0 where
+  pub known : d < p .«device_count»
+  pub area : ℕ
+  pub polls : ℕ
+  pub runs : c .devices d ≡ Runs area polls
+  pub inside : Among (windowPlace p area (c .jobs area)) (broughtBytes (answerOf answers d) (c .jobs area .task .kind) (requestOf p c area .length)) x
+
+-- It becomes this: "the window part becomes the image bytes".
+abbrev pub storeValue : Plan → Core → Memory → ℕ → ℕ → ℕ
+storeValue p c m a x = getD (m .image) (requestOf p c a .start .0 + (x - windowPlace p a (c .jobs a))) 0
+
+-- Each pending job is at a place where it is cut: this too holds of every state that calls lead to.
+abbrev pub AtCuts : Plan → Core → Type 0
+AtCuts p c = (a : ℕ) → isPending (c .jobs a) ≡ true → Cut (segmentAt p a (c .jobs a .task)) (c .jobs a .task) (c .jobs a .processed)
+
+-- the number that a query gets
+abbrev pub queryNumber : Plan → Query → ℕ
+queryNumber p (status a) = infoNumber p a
+queryNumber p (result a) = infoNumber p a
+queryNumber p (processed a) = infoNumber p a
+queryNumber p (jobInfo a) = infoNumber p a
+queryNumber p (memoryInfo a address) = memoryInfoNumber p a address
+
+-- the number that a call gets: "The first 'no' gives its number." "Acceptance is 0."
+abbrev pub callNumber : Plan → Call → History → ℕ
+callNumber p (submit a t) h = jobNumber p (h .core) a t
+callNumber p (releases a address n) h = releaseNumber p (h .core) a address n
+callNumber p (cancels a) h = cancelNumber p (h .core) a
+callNumber p (asks q) h = queryNumber p q
+callNumber p (round answers m) h = roundNumber p (m .image) (m .store)
+
+-- is the call a round?
+abbrev pub isRound : Call → Bool
+isRound (round answers m) = true
+isRound (submit a t) = false
+isRound (releases a address n) = false
+isRound (cancels a) = false
+isRound (asks q) = false

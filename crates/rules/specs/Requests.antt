@@ -1,0 +1,173 @@
+-- The requests that run in a reachable state: their bytes are bytes of image and store, and no two share one.
+use Prim.Native.Nat.{ℕ, zero, suc, _-_, _≤_, _<_}
+use mathlib.Core.Bool.{Bool, true}
+use mathlib.Core.Path.{_≡_, refl, sym, ap, subst, _∙_}
+use native.Mathlib.Numerals.{add-one}
+use native.Mathlib.Omega.{arith}
+use lib.ListN.{length}
+use Rattle.arith.specs.Bounded.{sum, sum-mono}
+use Rattle.arith.specs.FirstNo.{none-elim}
+use Rattle.arith.specs.Plain.{plain, and-plain}
+use Rattle.memory.specs.declared.DeviceAnswer.{DeviceAnswer}
+use Rattle.memory.specs.declared.DeviceAnswer.the-variants as Answers
+use Rattle.memory.specs.declared.JobType.the-variants.{NoJob}
+use Rattle.memory.specs.declared.Task.{Task}
+use Rattle.plan.specs.Questions.{deviceOf, areaOf, subAreaOf, deviceEnd, windowEnd, lengthSum}
+use Rattle.plan.specs.WellFormed.{WellFormed}
+use Rattle.plan.specs.declared.records.Plan.{Plan}
+use Rattle.segment.specs.CutLaws.{Cut}
+use Rattle.segment.specs.SegmentLaws.{Admitted, Good, segment-good}
+use Rattle.segment.specs.Segments.{segmentAt}
+use Rattle.state.specs.declared.DeviceState.{DeviceState}
+use Rattle.state.specs.declared.DeviceState.the-variants.{Free, Runs, LockedFor}
+use Rattle.state.specs.declared.Job.{Job}
+use Rattle.rules.specs.Admission.{usesWindow, fitsWindow, imageFits, storeReaches, roundNumber, admits}
+use Rattle.rules.specs.Layout.{Layout, layoutOf}
+use Rattle.rules.specs.Machine.{Core, due}
+use Rattle.rules.specs.Memory.{Memory}
+use Rattle.rules.specs.PlanLaws.{admitted}
+use Rattle.rules.specs.Reach.{requestOf, AtCuts}
+use Rattle.rules.specs.Reachable.{Running, DeviceFits, Reachable}
+use Rattle.rules.specs.RequestBytes.{Request, answered, Fits, Apart}
+use Rattle.rules.specs.Round.{windowPlace, memoryOn}
+
+-- the request of area a with job j
+abbrev pub requestFor : Plan → ℕ → Job → Request
+requestFor p a j =
+    record { kind = j .task .kind; start = due (layoutOf p) a j .start .0; place = windowPlace p a j; length = due (layoutOf p) a j .length }
+
+-- no request, as one of 0 bytes
+abbrev pub emptyRequest : Request
+emptyRequest = record { kind = NoJob; start = 0; place = 0; length = 0 }
+
+-- the request of a device in a state
+abbrev pub requestOn : Plan → DeviceState → (ℕ → Job) → Request
+requestOn p Free jobs = emptyRequest
+requestOn p (LockedFor a) jobs = emptyRequest
+requestOn p (Runs a polls) jobs = requestFor p a (jobs a)
+
+-- the request of device d
+abbrev pub requestAt : Plan → Core → ℕ → Request
+requestAt p c d = requestOn p (c .devices d) (c .jobs)
+
+-- a device's request is none, or that of the area that it runs
+pub by-request : (p : Plan) (c : Core) (P : Request → Type 0) (d : ℕ) → P emptyRequest →
+    ((a q : ℕ) → c .devices d ≡ Runs a q → P (requestFor p a (c .jobs a))) → P (requestAt p c d)
+by-request p c P d f g = go (c .devices d) refl
+  where
+    go : (s : DeviceState) → c .devices d ≡ s → P (requestOn p s (c .jobs))
+    go Free e = f
+    go (LockedFor a) e = f
+    go (Runs a q) e = g a q e
+
+-- no request does nothing
+empty-answered : (x : DeviceAnswer) (m : Memory) → m ≡ answered x emptyRequest m
+empty-answered Answers.Pending m = refl
+empty-answered Answers.Done m = refl
+empty-answered (Answers.Failed b) m = refl
+
+-- what a round does on a device is what its request does
+pub memory-on : (p : Plan) (s : DeviceState) (x : DeviceAnswer) (jobs : ℕ → Job) (m : Memory) →
+    memoryOn p s x jobs m ≡ answered x (requestOn p s jobs) m
+memory-on p Free x jobs m = empty-answered x m
+memory-on p (LockedFor a) x jobs m = empty-answered x m
+memory-on p (Runs a polls) x jobs m = refl
+
+-- questions 18 and 19 as facts
+pub round-accepted : (p : Plan) (m : Memory) → roundNumber p (m .image) (m .store) ≡ 0 →
+    (length (m .image) ≡ lengthSum (p .devices) (p .«device_count»))
+    × ((a : ℕ) → a < p .«area_count» → windowEnd (areaOf (p .areas) a) ≤ length (m .store))
+unfolding roundNumber imageFits storeReaches
+round-accepted p m e =
+    let answer = none-elim 18 _ (omega arith) e in
+    (simp plain at (answer 0 (omega arith)), simp plain at (answer 1 (omega arith)))
+
+-- question 14 as a fact
+fits-window : (p : Plan) (a : ℕ) (t : Task) → admits p a t ≡ true → usesWindow (t .kind) ≡ true → t .length ≤ areaOf (p .areas) a .window .length
+unfolding admits fitsWindow
+fits-window p a t e u =
+    let facts = simp and-plain at e in
+    simp plain at (rw u at (facts .1 .1 .0))
+
+module _ (p : Plan) (w : WellFormed p) where
+  -- a device ends where the lengths up to it add up to
+  device-sum : (d : ℕ) → d < p .«device_count» → deviceEnd (deviceOf (p .devices) d) ≡ lengthSum (p .devices) (suc d)
+  unfolding sum
+  device-sum zero h = omega (arith, w .first-start)
+  device-sum (suc d) h =
+      let e = rw add-one at (w .next-start d (omega arith)) in
+      omega (arith, device-sum d (omega arith))
+
+  -- so within the image
+  device-end : (d : ℕ) → d < p .«device_count» → deviceEnd (deviceOf (p .devices) d) ≤ lengthSum (p .devices) (p .«device_count»)
+  device-end d h = omega (arith, device-sum d h, sum-mono (λ i. deviceOf (p .devices) i .length) (suc d) (p .«device_count») h)
+
+-- area a's request is a good segment of its job, and lies in its window if the job uses it
+pub record Placed (p : Plan) (c : Core) (a : ℕ) : Type 0 where
+  pub known : a < p .«area_count»
+  pub job : Admitted p a (c .jobs a .task)
+  pub cut : Cut (segmentAt p a (c .jobs a .task)) (c .jobs a .task) (c .jobs a .processed)
+  pub more : c .jobs a .processed < c .jobs a .task .length
+  pub good : Good p a (c .jobs a .task) (requestOf p c a) (c .jobs a .task .length - c .jobs a .processed)
+  pub window : usesWindow (c .jobs a .task .kind) ≡ true → c .jobs a .task .length ≤ areaOf (p .areas) a .window .length
+
+module _ {l : Layout} {ok : ℕ → Task → Bool} {c : Core} (reach : Reachable l ok c) where
+  -- what holds of an area that a device runs
+  running-on : {d a q : ℕ} → c .devices d ≡ Runs a q → Running l d a q (c .jobs a)
+  running-on {d} e = subst (DeviceFits l (c .jobs) d) e (reach .devices d)
+
+  -- no two devices run one area
+  pub one-device : {d e a q r : ℕ} → c .devices d ≡ Runs a q → c .devices e ≡ Runs a r → d ≡ e
+  one-device u v = sym (running-on u .needed) ∙ running-on v .needed
+
+module _ (p : Plan) (w : WellFormed p) (c : Core) (reach : Reachable (layoutOf p) (admits p) c) (cuts : AtCuts p c) where
+  -- a request that runs is placed
+  pub placed : {d a q : ℕ} → c .devices d ≡ Runs a q → Placed p c a
+  unfolding layoutOf
+  placed {d} {a} {q} e =
+      let pending = running-on reach e .pending in
+      let job = reach .jobs a pending in
+      let ok = admitted p a (c .jobs a .task) (job .known) (job .admitted) in
+      record {
+        known = job .known;
+        job = ok;
+        cut = cuts a pending;
+        more = job .more;
+        good = segment-good p w a (c .jobs a .task) ok (cuts a pending) (job .more);
+        window = fits-window p a (c .jobs a .task) (job .admitted);
+      }
+
+  -- in an accepted round the bytes of a device's request are bytes of image and store
+  pub request-fits : (m : Memory) → roundNumber p (m .image) (m .store) ≡ 0 → (d : ℕ) → Fits m (requestAt p c d)
+  request-fits m accepted d =
+      let long = round-accepted p m accepted in
+      by-request p c (Fits m) d (omega arith) λ a q e.
+      let h = placed e in
+      let g = h .good in
+      let known = w .device-known (g .sub-area) (g .known) in
+      record {
+        image = omega (arith, g .before-device-end, ap (λ i. deviceEnd (deviceOf (p .devices) i)) (g .device-is), device-end p w _ known, long .0);
+        store = λ u. omega (arith, g .length-most, h .more, h .window u, long .1 a (h .known));
+      }
+
+  -- requests of two areas share no byte
+  areas-apart : {a b : ℕ} → Placed p c a → Placed p c b → (a ≡ b → ⊥) → Apart (requestFor p a (c .jobs a)) (requestFor p b (c .jobs b))
+  areas-apart {a} {b} h k f =
+      let g = h .good in
+      let i = k .good in
+      record {
+        image = λ x u v.
+            w .bytes-apart (g .sub-area) (i .sub-area) (g .known) (i .known)
+            (λ e. f (sym (g .of-area) ∙ ap (λ n. subAreaOf (p .«sub_areas») n .area) e ∙ i .of-area)) x
+            (omega (arith, g .after-start, g .before-end)) (omega (arith, i .after-start, i .before-end));
+        store = λ s t x u v.
+            w .window-apart a b (h .known) (k .known) f x
+            (omega (arith, g .length-most, h .more, h .window s)) (omega (arith, i .length-most, k .more, k .window t));
+      }
+
+  -- nor do those of two devices
+  pub requests-apart : (d e : ℕ) → (d ≡ e → ⊥) → Apart (requestAt p c d) (requestAt p c e)
+  requests-apart d e f =
+      by-request p c (λ r. Apart r (requestAt p c e)) d (omega arith) λ a q u.
+      by-request p c (λ r. Apart (requestFor p a (c .jobs a)) r) e (omega arith) λ b r v.
+      areas-apart (placed u) (placed v) (λ g. f (one-device reach u (v ∙ ap (λ i. Runs i r) (sym g))))

@@ -1,0 +1,187 @@
+-- What one step of a round does to one area, and what it leaves alone.
+use Prim.Native.Nat.{ℕ, zero, suc, _+_, _≤_}
+use mathlib.Core.Bool.{Bool, true, false}
+use mathlib.Core.List.{List, [], _∷_, _++_}
+use mathlib.Core.Path.{_≡_, refl, sym, subst, _∙_}
+use native.Mathlib.Omega.{arith}
+use lib.Dec.{ltb, eqb}
+use Rattle.arith.specs.Cases.{pick, by-bool, by-eqb}
+use Rattle.arith.specs.FirstNo.{none-elim}
+use Rattle.arith.specs.Parts.{upd-same, upd-other, same-or}
+use Rattle.memory.specs.declared.DeviceAnswer.{DeviceAnswer}
+use Rattle.memory.specs.declared.Task.{Task}
+use Rattle.plan.specs.declared.records.Plan.{Plan}
+use Rattle.segment.specs.Segments.{isLock}
+use Rattle.segment.specs.declared.Segment.{Segment}
+use Rattle.state.specs.declared.DeviceState.{DeviceState}
+use Rattle.state.specs.declared.DeviceState.the-variants.{Free, Runs, LockedFor}
+use Rattle.state.specs.declared.Job.{Job}
+use Rattle.rules.specs.Admission.{admits, cancelQuestions, cancelNumber}
+use Rattle.rules.specs.History.{History}
+use Rattle.rules.specs.Layout.{Layout, layoutOf}
+use Rattle.rules.specs.Machine.{Core, isPending, Verdict, goesOn, finished, differs, failed, due, jobFailed, jobFinished, jobDiffers, takeRunning, takeOn, takeAnswer, withDevice, withBoth, ended, ready, Choice, nobody, area, better, best, startJob, startChoice, startOn, start}
+use Rattle.rules.specs.Memory.{Memory}
+use Rattle.rules.specs.Reachable.{Running, DeviceFits, Reachable}
+use Rattle.rules.specs.Round.{Half, answerOf, verdictOn, addDone, doneOn, takeIn, takeAll}
+
+-- a history with the memory that is lent to a round
+abbrev pub lent : Memory → History → Half
+lent m h = record { core = h .core; memory = m; done = h .done }
+
+-- the job whose request takes an answer. Tests: the verdict; are polls below the limit?
+abbrev pub jobTaken : Layout → ℕ → Verdict → Bool → Job → Job
+jobTaken p a goesOn true j = j
+jobTaken p a goesOn false j = jobFailed j
+jobTaken p a finished t j = jobFinished p a j
+jobTaken p a differs t j = jobDiffers j
+jobTaken p a failed t j = jobFailed j
+
+-- and its done requests
+abbrev pub doneTaken : Verdict → Segment → List Segment → List Segment
+doneTaken finished s l = l ++ (s ∷ [])
+doneTaken goesOn s l = l
+doneTaken differs s l = l
+doneTaken failed s l = l
+
+-- the request that runs on device d is area a's
+take-mine : (P : Job → List Segment → Type 0) (p : Layout) (d a q : ℕ) (s : Segment) (c : Core) (done : ℕ → List Segment) →
+    (v : Verdict) (t : Bool) → P (jobTaken p a v t (c .jobs a)) (doneTaken v s (done a)) →
+    P (takeRunning p d a q v t c .jobs a) (addDone v a s done a)
+take-mine P p d a q s c done goesOn true k = k
+take-mine P p d a q s c done goesOn false k = rw upd-same k
+take-mine P p d a q s c done finished t k = simp upd-same k
+take-mine P p d a q s c done differs t k = rw upd-same k
+take-mine P p d a q s c done failed t k = rw upd-same k
+
+-- or another's
+take-other : (P : Job → List Segment → Type 0) (p : Layout) (d a b q : ℕ) (s : Segment) (c : Core) (done : ℕ → List Segment) →
+    (v : Verdict) (t : Bool) → (b ≡ a → ⊥) → P (c .jobs a) (done a) → P (takeRunning p d b q v t c .jobs a) (addDone v b s done a)
+take-other P p d a b q s c done goesOn true f k = k
+take-other P p d a b q s c done goesOn false f k = rw upd-other k
+take-other P p d a b q s c done finished t f k = simp upd-other k
+take-other P p d a b q s c done differs t f k = rw upd-other k
+take-other P p d a b q s c done failed t f k = rw upd-other k
+
+module _ (p : Plan) (d : ℕ) (x : DeviceAnswer) (h : Half) (a : ℕ) where
+  -- area a's request runs on device d, which takes its answer, or the area stays as it is
+  pub take-case : (P : Job → List Segment → Type 0) →
+      ((q : ℕ) → h .core .devices d ≡ Runs a q →
+      let v = verdictOn p (Runs a q) x (h .core .jobs) (h .memory) in
+      P (jobTaken (layoutOf p) a v (ltb (q + 1) (layoutOf p .limit d)) (h .core .jobs a))
+      (doneTaken v (due (layoutOf p) a (h .core .jobs a)) (h .done a))) →
+      P (h .core .jobs a) (h .done a) → P (takeIn p d x h .core .jobs a) (takeIn p d x h .done a)
+  unfolding takeIn takeAnswer
+  take-case P runs rests = go (h .core .devices d) refl
+    where
+      s : ℕ → Segment
+      s b = due (layoutOf p) b (h .core .jobs b)
+
+      v : ℕ → ℕ → Verdict
+      v b q = verdictOn p (Runs b q) x (h .core .jobs) (h .memory)
+
+      t : ℕ → Bool
+      t q = ltb (q + 1) (layoutOf p .limit d)
+
+      After : DeviceState → Type 0
+      After y =
+          let v = verdictOn p y x (h .core .jobs) (h .memory) in
+          P (takeOn (layoutOf p) d v y (h .core) .jobs a) (doneOn p y v (h .core .jobs) (h .done) a)
+
+      go : (y : DeviceState) → h .core .devices d ≡ y → After y
+      go Free e = rests
+      go (LockedFor b) e = rests
+      go (Runs b q) e =
+          same-or (λ b. h .core .devices d ≡ Runs b q → After (Runs b q)) a b
+          (λ e. take-mine P (layoutOf p) d a q (s a) (h .core) (h .done) (v a q) (t q) (runs q e))
+          (λ f e. take-other P (layoutOf p) d a b q (s b) (h .core) (h .done) (v b q) (t q) (λ g. f (sym g)) rests)
+          e
+
+-- a device that runs a request runs that of a pending job, which needs the device
+pub running : {p : Layout} {admits : ℕ → Task → Bool} {c : Core} → Reachable p admits c → (d : ℕ) {a q : ℕ} → c .devices d ≡ Runs a q →
+    Running p d a q (c .jobs a)
+running {p} {admits} {c} r d e = subst (DeviceFits p (c .jobs) d) e (r .devices d)
+
+-- a device's answer leaves the other devices
+take-leaves : (p : Layout) (d k : ℕ) (v : Verdict) (c : Core) → (d ≡ k → ⊥) → takeAnswer p d v c .devices k ≡ c .devices k
+unfolding takeAnswer
+take-leaves p d k v c f = go (c .devices d)
+  where
+    taken : (a q : ℕ) (v : Verdict) (t : Bool) → takeRunning p d a q v t c .devices k ≡ c .devices k
+    taken a q goesOn true = upd-other _ d k _ f
+    taken a q goesOn false = upd-other _ d k _ f
+    taken a q finished t = upd-other _ d k _ f
+    taken a q differs t = upd-other _ d k _ f
+    taken a q failed t = upd-other _ d k _ f
+
+    go : (y : DeviceState) → takeOn p d v y c .devices k ≡ c .devices k
+    go Free = refl
+    go (LockedFor a) = refl
+    go (Runs a q) = taken a q v _
+
+-- from core c to e device d stays, and so does the job whose request it runs
+pub record Untouched (c e : Core) (d : ℕ) : Type 0 where
+  pub device : e .devices d ≡ c .devices d
+  pub job : (a q : ℕ) → c .devices d ≡ Runs a q → e .jobs a ≡ c .jobs a
+
+module _ (p : Plan) (answers : List DeviceAnswer) (h : Half) (r : Reachable (layoutOf p) (admits p) (h .core)) where
+  -- so does every device that is not among those that have taken their answers
+  pub untouched : (n d : ℕ) → n ≤ d → Untouched (h .core) (takeAll p answers n h .core) d
+  unfolding takeAll takeIn
+  untouched zero d l = record { device = refl; job = λ a q e. refl }
+  untouched (suc n) d l =
+      let before = untouched n d (omega arith) in
+      record {
+        device = take-leaves _ n d _ _ (λ f. omega arith) ∙ before .device;
+        job = λ a q e.
+            take-case p n (answerOf answers n) (takeAll p answers n h) a (λ j _. j ≡ h .core .jobs a)
+            (λ _ f.
+            let other = running r n (sym (untouched n n (omega arith) .device) ∙ f) .needed in
+            absurd (omega (arith, running r d e .needed)))
+            (before .job a q e);
+      }
+
+-- an area, if any, that is ready
+abbrev IsReady : Layout → Core → ℕ → Choice → Type 0
+IsReady p c d nobody = Unit {0}
+IsReady p c d (area a) = ready p c d a ≡ true
+
+-- the one that is picked is
+best-ready : (p : Layout) (c : Core) (d n : ℕ) → IsReady p c d (best p c d n)
+unfolding best
+best-ready p c d zero = tt
+best-ready p c d (suc n) = by-bool (ready p c d n) (λ e. rw e (above (best p c d n) e (best-ready p c d n))) (λ e. rw e (best-ready p c d n))
+  where
+    above : (x : Choice) → ready p c d n ≡ true → IsReady p c d x → IsReady p c d (better p n x)
+    above nobody e f = e
+    above (area b) e f = by-bool (p .outranks n b) (λ g. rw g e) (λ g. rw g f)
+
+module _ (P : Core → Type 0) (p : Layout) (d : ℕ) (c : Core) where
+  -- device d starts nothing, is locked for an area that is ready, or starts a request
+  pub start-case : P c →
+      ((a : ℕ) → c .devices d ≡ Free → ready p c d a ≡ true → isLock (c .jobs a .task .kind) ≡ true →
+      P (withBoth a (ended 0 (c .jobs a)) d (LockedFor a) c)) →
+      ((a : ℕ) → c .devices d ≡ Free → P (withDevice d (Runs a 0) c)) → P (start p d c)
+  unfolding start
+  start-case stays locks runs = go (c .devices d) refl
+    where
+      given : (a : ℕ) → c .devices d ≡ Free → ready p c d a ≡ true → (t : Bool) → isLock (c .jobs a .task .kind) ≡ t → P (startJob d a t c)
+      given a e r true k = locks a e r k
+      given a e r false k = runs a e
+
+      picked : (x : Choice) → c .devices d ≡ Free → IsReady p c d x → P (startChoice d x c)
+      picked nobody e r = stays
+      picked (area a) e r = given a e r _ refl
+
+      go : (x : DeviceState) → c .devices d ≡ x → P (startOn p d x c)
+      go Free e = picked (best p c d (p .areas)) e (best-ready p c d (p .areas))
+      go (LockedFor a) e = stays
+      go (Runs a q) e = stays
+
+-- a call is accepted, or refused
+pub accept-case : {A : Type 0} (P : A → Type 0) (n : ℕ) {x y : A} → (n ≡ 0 → P x) → P y → P (pick (eqb n 0) x y)
+accept-case P n f g = by-eqb n 0 (λ e z. rw e (f z)) (λ e _. rw e g)
+
+-- question 17
+pub cancel-pending : (p : Plan) (c : Core) (a : ℕ) → cancelNumber p c a ≡ 0 → isPending (c .jobs a) ≡ true
+unfolding cancelNumber cancelQuestions
+cancel-pending p c a e = none-elim 10 _ (omega arith) e 7 (omega arith)
