@@ -39,7 +39,7 @@ abbrev pub planT : List ℕ
 planT = planWith 64 2 32
 
 -- "Empty plan: 2. Patience 0: 3. Device length 63: 6. Sector burst 24: 5."
-examples :
+pub examples :
     (loadNumber planT ≡ 0)
     × (loadNumber [] ≡ 2)
     × (loadNumber (planWith 64 0 32) ≡ 3)

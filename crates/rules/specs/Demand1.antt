@@ -1,6 +1,4 @@
--- document 00, demand 1: "The lent memory, which is the chip image and the job store, changes only in a round, and only inside
--- requests that the round finishes and the rules of document 01 let change it. [..] a refused call leaves image, store and
--- manager as they were."
+-- Demand 1 holds in every reachable state.
 use Prim.Native.Nat.{ℕ, _+_, _-_, _≤_, _<_}
 use mathlib.Core.Bool.{false, true≢false}
 use mathlib.Core.List.{List}
@@ -27,13 +25,14 @@ use Rattle.rules.specs.Layout.{layoutOf}
 use Rattle.rules.specs.ListLaws.{listed-at}
 use Rattle.rules.specs.Machine.{Core}
 use Rattle.rules.specs.Memory.{Memory}
-use Rattle.rules.specs.Reach.{actedBytes, broughtBytes, requestOf, roundMemory, AtCuts, ImageActed, imageValue, StoreActed, storeValue}
+use Rattle.rules.specs.Reach.{actedBytes, broughtBytes, requestOf, roundMemory, ImageActed, imageValue, StoreActed, storeValue}
 use Rattle.rules.specs.Reach.{callNumber, isRound}
 use Rattle.rules.specs.Reachable.{Reachable}
 use Rattle.rules.specs.RequestBytes.{Request, imageChange, storeChange, image-own, store-own, After}
-use Rattle.rules.specs.Requests.{requestFor, requestOn, requestAt, emptyRequest, Placed, placed, by-request}
+use Rattle.rules.specs.Requests.{AtCuts, requestFor, requestOn, requestAt, emptyRequest, Placed, placed, by-request}
 use Rattle.rules.specs.Round.{answerOf, roundHalves}
 use Rattle.rules.specs.Session.{memoryOf}
+use Rattle.rules.specs.Statements.{RoundChanges, Demand1}
 use Rattle.rules.specs.TakeLaws.{taken}
 
 -- a number that is not 0 picks what was before
@@ -41,7 +40,7 @@ pick-refused : {A : Type 0} (n : ℕ) (x y : A) → n ≢ 0 → pick (eqb n 0) x
 pick-refused n x y f = rw (ne-eqb n 0 f)
 
 -- "a refused call leaves [..] manager as they were"
-pub refused-keeps : (p : Plan) (k : Call) (h : History) → callNumber p k h ≢ 0 → step p k h ≡ h
+refused-keeps : (p : Plan) (k : Call) (h : History) → callNumber p k h ≢ 0 → step p k h ≡ h
 unfolding step
 refused-keeps p (submit a t) h f = pick-refused _ _ h f
 refused-keeps p (releases a address n) h f = pick-refused _ _ h f
@@ -50,7 +49,7 @@ refused-keeps p (asks q) h f = refl
 refused-keeps p (round answers m) h f = pick-refused _ _ h f
 
 -- image and store stay as they were where the call is refused or is no round
-pub memory-kept : (p : Plan) (k : Call) (h : History) (m : Memory) → (callNumber p k h ≢ 0) ⊎ (isRound k ≡ false) → memoryOf p k h m ≡ m
+memory-kept : (p : Plan) (k : Call) (h : History) (m : Memory) → (callNumber p k h ≢ 0) ⊎ (isRound k ≡ false) → memoryOf p k h m ≡ m
 memory-kept p (submit a t) h m f = refl
 memory-kept p (releases a address n) h m f = refl
 memory-kept p (cancels a) h m f = refl
@@ -83,11 +82,11 @@ module _ (p : Plan) (c : Core) (answers : List DeviceAnswer) where
       (λ a q e u. record { known = h; area = a; polls = q; runs = e; inside = u })
 
   -- "inside requests that the round finishes": the answer to a request that acts on an image byte is not pending
-  pub image-finished : (x d : ℕ) → ImageActed p c answers x d → answerOf answers d ≢ Answers.Pending
+  image-finished : (x d : ℕ) → ImageActed p c answers x d → answerOf answers d ≢ Answers.Pending
   image-finished x d h e = omega (arith, ap (λ y. actedBytes y (c .jobs (h .area) .task .kind) (requestOf p c (h .area) .length)) e)
 
   -- the same for the store
-  pub store-finished : (x d : ℕ) → StoreActed p c answers x d → answerOf answers d ≢ Answers.Pending
+  store-finished : (x d : ℕ) → StoreActed p c answers x d → answerOf answers d ≢ Answers.Pending
   store-finished x d h e = omega (arith, ap (λ y. broughtBytes y (c .jobs (h .area) .task .kind) (requestOf p c (h .area) .length)) e)
 
 module _ (p : Plan) (w : WellFormed p) (c : Core) (reach : Reachable (layoutOf p) (admits p) c) (cuts : AtCuts p c)
@@ -102,7 +101,7 @@ module _ (p : Plan) (w : WellFormed p) (c : Core) (reach : Reachable (layoutOf p
       ∙ listed-at 0 (λ i. i) _ _ k h
 
   -- "Which bytes can an update job reach": of the image, the job's mapped bytes
-  pub image-reach : (x d : ℕ) (h : ImageActed p c answers x d) →
+  image-reach : (x d : ℕ) (h : ImageActed p c answers x d) →
       (k : ℕ) × (k < c .jobs (h .area) .task .length) × (mappedByte p (h .area) (c .jobs (h .area) .task) k ≡ x)
   image-reach x d h =
       let a = h .area in
@@ -112,7 +111,7 @@ module _ (p : Plan) (w : WellFormed p) (c : Core) (reach : Reachable (layoutOf p
       (c .jobs a .processed + k, omega (arith, g .good .length-most), omega (arith, request-byte g k (omega arith)))
 
   -- of the store, the part of its window that is as long as the job
-  pub store-reach : (x d : ℕ) (h : StoreActed p c answers x d) →
+  store-reach : (x d : ℕ) (h : StoreActed p c answers x d) →
       Among (areaOf (p .areas) (h .area) .window .start) (c .jobs (h .area) .task .length) x
       × (c .jobs (h .area) .task .length ≤ areaOf (p .areas) (h .area) .window .length)
   store-reach x d h =
@@ -126,40 +125,49 @@ module _ (p : Plan) (w : WellFormed p) (c : Core) (reach : Reachable (layoutOf p
     unfolding roundHalves
     round-after = taken p w c reach cuts answers m accepted done (p .«device_count») .after
 
-    -- the image keeps its length
-    pub image-length : length (roundMemory p c answers m done .image) ≡ length (m .image)
-    image-length = round-after .image .same-length
-
-    -- so does the store
-    pub store-length : length (roundMemory p c answers m done .store) ≡ length (m .store)
-    store-length = round-after .store .same-length
-
     -- an image byte that is acted on becomes what the rules say
-    pub image-acted : (x d : ℕ) (h : ImageActed p c answers x d) → getD (roundMemory p c answers m done .image) x 0 ≡ imageValue p c m (h .area) x
+    image-acted : (x d : ℕ) (h : ImageActed p c answers x d) → getD (roundMemory p c answers m done .image) x 0 ≡ imageValue p c m (h .area) x
     image-acted x d h =
         made-by p c (λ e r. imageChange (answerOf answers e) r m) _ _ _ (round-after .image) d (h .area) (h .polls) x (h .known) (h .runs) (h .inside)
 
-    -- any other image byte stays
-    pub image-kept : (x : ℕ) → ((d : ℕ) → ImageActed p c answers x d → ⊥) → getD (roundMemory p c answers m done .image) x 0 ≡ getD (m .image) x 0
-    image-kept x f = round-after .image .outside x (λ d h u. f d (image-by p c answers m d x h u))
-
-    -- so an image byte that changes is acted on
-    pub image-changed : (x : ℕ) → getD (roundMemory p c answers m done .image) x 0 ≢ getD (m .image) x 0 → (d : ℕ) × ImageActed p c answers x d
+    -- an image byte that changes is acted on
+    image-changed : (x : ℕ) → getD (roundMemory p c answers m done .image) x 0 ≢ getD (m .image) x 0 → (d : ℕ) × ImageActed p c answers x d
     image-changed x f =
         let (d, h, u) = changed-by (round-after .image) x f in
         (d, image-by p c answers m d x h u)
 
     -- a store byte that is acted on becomes what the rules say
-    pub store-acted : (x d : ℕ) (h : StoreActed p c answers x d) → getD (roundMemory p c answers m done .store) x 0 ≡ storeValue p c m (h .area) x
+    store-acted : (x d : ℕ) (h : StoreActed p c answers x d) → getD (roundMemory p c answers m done .store) x 0 ≡ storeValue p c m (h .area) x
     store-acted x d h =
         made-by p c (λ e r. storeChange (answerOf answers e) r m) _ _ _ (round-after .store) d (h .area) (h .polls) x (h .known) (h .runs) (h .inside)
 
-    -- any other store byte stays
-    pub store-kept : (x : ℕ) → ((d : ℕ) → StoreActed p c answers x d → ⊥) → getD (roundMemory p c answers m done .store) x 0 ≡ getD (m .store) x 0
-    store-kept x f = round-after .store .outside x (λ d h u. f d (store-by p c answers m d x h u))
-
-    -- so a store byte that changes is acted on
-    pub store-changed : (x : ℕ) → getD (roundMemory p c answers m done .store) x 0 ≢ getD (m .store) x 0 → (d : ℕ) × StoreActed p c answers x d
+    -- a store byte that changes is acted on
+    store-changed : (x : ℕ) → getD (roundMemory p c answers m done .store) x 0 ≢ getD (m .store) x 0 → (d : ℕ) × StoreActed p c answers x d
     store-changed x f =
         let (d, h, u) = changed-by (round-after .store) x f in
         (d, store-by p c answers m d x h u)
+
+    -- an accepted round, with all of this
+    round-changes : RoundChanges p c answers m (roundMemory p c answers m done)
+    round-changes =
+        record {
+          image-length = round-after .image .same-length;
+          store-length = round-after .store .same-length;
+          image-changed = image-changed;
+          store-changed = store-changed;
+          image-acted = image-acted;
+          store-acted = store-acted;
+          image-finished = image-finished p c answers;
+          store-finished = store-finished p c answers;
+          image-reach = image-reach;
+          store-reach = store-reach;
+        }
+
+-- demand 1
+pub demand1 : (p : Plan) → WellFormed p → (h : History) → Reachable (layoutOf p) (admits p) (h .core) → AtCuts p (h .core) → Demand1 p h
+demand1 p w h reach cuts =
+    record {
+      other-calls = λ k m e. memory-kept p k h m (inr e);
+      rounds = λ answers m e. rw e (round-changes p w (h .core) reach cuts answers m e (h .done));
+      refused = λ k m f. (refused-keeps p k h f, memory-kept p k h m (inl f));
+    }

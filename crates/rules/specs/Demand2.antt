@@ -1,72 +1,75 @@
--- document 00, demand 2: what is done of a job, and what its reads and writes move
-use Prim.Native.Nat.{ℕ, suc, _<_}
-use mathlib.Core.Bool.{true, false}
+-- Demand 2 holds in every reachable state.
+use Prim.Native.Nat.{ℕ, _+_, _-_, _<_}
 use mathlib.Core.List.{List}
-use mathlib.Core.Path.{_≡_, subst}
+use mathlib.Core.Path.{_≡_, ap, subst, _∙_}
 use native.Mathlib.Omega.{arith}
-use Rattle.arith.specs.Parts.{part}
+use lib.ListN.{getD}
 use Rattle.memory.specs.declared.DeviceAnswer.{DeviceAnswer}
 use Rattle.memory.specs.declared.DeviceAnswer.the-variants as Answers
 use Rattle.memory.specs.declared.JobType.the-variants.{Write, Read}
 use Rattle.plan.specs.WellFormed.{WellFormed}
 use Rattle.plan.specs.declared.records.Plan.{Plan}
-use Rattle.segment.specs.Bytes.{joined, mappedByte, mappedBytes}
+use Rattle.segment.specs.Bytes.{joined, mappedBytes}
 use Rattle.segment.specs.BytesLaws.{mapped-once}
-use Rattle.segment.specs.Segments.{isLock}
 use Rattle.state.specs.declared.DeviceState.the-variants.{Runs}
 use Rattle.rules.specs.Admission.{roundNumber, admits}
-use Rattle.rules.specs.DoneKept.{done-fits}
-use Rattle.rules.specs.Ends.{Ends}
+use Rattle.rules.specs.DoneKept.{Fits}
+use Rattle.rules.specs.Ends.{ends-few}
 use Rattle.rules.specs.EndsSo.{ends-so}
-use Rattle.rules.specs.History.{Call, start, step, run}
-use Rattle.rules.specs.Inside.{Acts, acts-write, acts-read, done-acts}
+use Rattle.rules.specs.History.{History, round}
 use Rattle.rules.specs.Layout.{layoutOf}
-use Rattle.rules.specs.Machine.{isPending, due}
 use Rattle.rules.specs.Memory.{Memory}
-use Rattle.rules.specs.Reachable.{Reachable}
-use Rattle.rules.specs.Round.{answerOf, windowPlace, takeAll}
-use Rattle.rules.specs.StepLaws.{lent}
+use Rattle.rules.specs.PlanLaws.{plan-laws}
+use Rattle.rules.specs.Reach.{actedBytes, broughtBytes, imageBytes, windowBytes, actedByte, requestOf}
+use Rattle.rules.specs.Reachable.{Reachable, running-known}
+use Rattle.rules.specs.Round.{answerOf, windowPlace}
+use Rattle.rules.specs.Session.{memoryOf}
+use Rattle.rules.specs.Statements.{RoundChanges, Demand1, Demand2}
 
--- area a after every list of calls
-module _ (p : Plan) (w : WellFormed p) (reached : (cs : List Call) → Reachable (layoutOf p) (admits p) (run p cs start .core))
-    (cs : List Call) (a : ℕ) where
-  -- at any time the requests answered done, joined in order, are the job's mapped bytes up to the processed length
-  pub done-joined : let h = run p cs start in joined (h .done a) ≡ mappedBytes p a (h .core .jobs a .task) 0 (h .core .jobs a .processed)
-  done-joined = done-fits p w reached cs a .joined-is
+module _ (p : Plan) (h : History) (first : Demand1 p h) (answers : List DeviceAnswer) (m : Memory)
+    (accepted : roundNumber p (m .image) (m .store) ≡ 0) (d a polls : ℕ) (known : d < p .«device_count»)
+    (runs : h .core .devices d ≡ Runs a polls) (done : answerOf answers d ≡ Answers.Done) where
+  -- the changes that the round makes
+  changes : RoundChanges p (h .core) answers m (memoryOf p (round answers m) h m)
+  changes = first .rounds answers m accepted
 
-  -- "A successful job other than a lock request": they are all of its mapped bytes
-  pub whole-range : let h = run p cs start in let j = h .core .jobs a in
-      isPending j ≡ false → j .result .0 ≡ 0 → isLock (j .task .kind) ≡ false → joined (h .done a) ≡ mappedBytes p a (j .task) 0 (j .task .length)
-  whole-range e r k =
-      let fits = done-fits p w reached cs a in
-      subst (λ n. joined (run p cs start .done a) ≡ mappedBytes p a (run p cs start .core .jobs a .task) 0 n) (fits .complete e r k) (fits .joined-is)
+  -- a write that is done has acted on all of its bytes
+  write-done : h .core .jobs a .task .kind ≡ Write → (k : ℕ) → k < requestOf p (h .core) a .length →
+      getD (memoryOf p (round answers m) h m .image) (requestOf p (h .core) a .start .0 + k) 0
+      ≡ getD (m .store) (windowPlace p a (h .core .jobs a) + k) 0
+  write-done e k l =
+      let s = requestOf p (h .core) a in
+      let x = s .start .0 + k in
+      let all = ap (λ y. actedBytes y (h .core .jobs a .task .kind) (s .length)) done ∙ ap (λ t. imageBytes t (s .length)) e in
+      let offset : x - s .start .0 ≡ k = omega arith in
+      changes .image-acted x d (record { known = known; area = a; polls = polls; runs = runs; inside = omega (arith, all) })
+      ∙ ap (λ t. actedByte t (getD (m .store) (windowPlace p a (h .core .jobs a) + (x - s .start .0)) 0)) e
+      ∙ ap (λ i. getD (m .store) (windowPlace p a (h .core .jobs a) + i) 0) offset
 
-  -- "each once"
-  pub bytes-once : let t = run p cs start .core .jobs a .task in
-      (x y : ℕ) → x < t .length → y < t .length → mappedByte p a t x ≡ mappedByte p a t y → x ≡ y
-  bytes-once x y h l = mapped-once p w a _ (done-fits p w reached cs a .admitted (omega arith)) x y h l
+  -- a read that is done has brought all of them
+  read-done : h .core .jobs a .task .kind ≡ Read → (k : ℕ) → k < requestOf p (h .core) a .length →
+      getD (memoryOf p (round answers m) h m .store) (windowPlace p a (h .core .jobs a) + k) 0
+      ≡ getD (m .image) (requestOf p (h .core) a .start .0 + k) 0
+  read-done e k l =
+      let s = requestOf p (h .core) a in
+      let x = windowPlace p a (h .core .jobs a) + k in
+      let all = ap (λ y. broughtBytes y (h .core .jobs a .task .kind) (s .length)) done ∙ ap (λ t. windowBytes t (s .length)) e in
+      let offset : x - windowPlace p a (h .core .jobs a) ≡ k = omega arith in
+      changes .store-acted x d (record { known = known; area = a; polls = polls; runs = runs; inside = omega (arith, all) })
+      ∙ ap (λ i. getD (m .image) (s .start .0 + i) 0) offset
 
-  -- a job that a call ends has its result by the rules
-  pub result-so : (c : Call) → let h = run p cs start in let e = step p c h .core in isPending (h .core .jobs a) ≡ true →
-      isPending (e .jobs a) ≡ false → Ends p h e a c (e .jobs a .result .0)
-  result-so c = ends-so p c (run p cs start) (reached cs) a
-
-  -- an accepted round, and a request of area a that is done in it
-  module _ (answers : List DeviceAnswer) (m : Memory) (accepted : roundNumber p (m .image) (m .store) ≡ 0) (d polls : ℕ)
-      (runs : run p cs start .core .devices d ≡ Runs a polls) (done : answerOf answers d ≡ Answers.Done) where
-    -- what it does, once the devices before d have taken their answers
-    acts : let h = run p cs start in
-        Acts p a (h .core .jobs a) (takeAll p answers d (lent m h) .memory) (takeAll p answers (suc d) (lent m h) .memory)
-    acts = done-acts p w answers m (run p cs start) (reached cs) (done-fits p w reached cs) accepted d a polls runs done
-
-    -- a write: the image part becomes the window bytes of this moment
-    pub done-write : let h = run p cs start in let j = h .core .jobs a in let s = due (layoutOf p) a j in j .task .kind ≡ Write →
-        part (s .start .0) (s .length) (takeAll p answers (suc d) (lent m h) .memory .image)
-        ≡ part (windowPlace p a j) (s .length) (takeAll p answers d (lent m h) .memory .store)
-    done-write k = acts-write acts k
-
-    -- a read: the window part becomes the image bytes
-    pub done-read : let h = run p cs start in let j = h .core .jobs a in let s = due (layoutOf p) a j in j .task .kind ≡ Read →
-        part (windowPlace p a j) (s .length) (takeAll p answers (suc d) (lent m h) .memory .store)
-        ≡ part (s .start .0) (s .length) (takeAll p answers d (lent m h) .memory .image)
-    done-read k = acts-read acts k
+-- demand 2
+pub demand2 : (p : Plan) → WellFormed p → (h : History) → Reachable (layoutOf p) (admits p) (h .core) → Fits p h → Demand1 p h → (a : ℕ) →
+    Demand2 p h a
+unfolding layoutOf
+demand2 p w h reach fits first a =
+    let known : (d polls : ℕ) → h .core .devices d ≡ Runs a polls → d < p .«device_count» = λ d polls. running-known (plan-laws p w) reach in
+    record {
+      joined-so-far = fits a .joined-is;
+      joined-whole = λ e r k.
+          subst (λ n. joined (h .done a) ≡ mappedBytes p a (h .core .jobs a .task) 0 n) (fits a .complete e r k) (fits a .joined-is);
+      bytes-once = λ x y l. mapped-once p w a _ (fits a .admitted (omega arith)) x y l;
+      done-write = λ answers m e d polls runs done. write-done p h first answers m e d a polls (known d polls runs) runs done;
+      done-read = λ answers m e d polls runs done. read-done p h first answers m e d a polls (known d polls runs) runs done;
+      result-so = λ k e f. let so = ends-so p k h reach a e f in (so, ends-few so);
+    }

@@ -18,14 +18,15 @@ use Rattle.segment.specs.SegmentLaws.{Admitted}
 use Rattle.segment.specs.declared.Segment.{Segment}
 use Rattle.state.specs.declared.DeviceState.the-variants.{Runs}
 use Rattle.state.specs.declared.Job.{Job}
+use Rattle.rules.specs.Admitted.{job-admitted}
 use Rattle.rules.specs.Admission.{admits, jobNumber, releaseNumber, cancelNumber, roundNumber}
-use Rattle.rules.specs.History.{Call, submit, releases, cancels, asks, round, History, start, roundOf, submitted, step, run}
+use Rattle.rules.specs.History.{Call, submit, releases, cancels, asks, round, History, lent, start, roundOf, submitted, step, run}
 use Rattle.rules.specs.Layout.{layoutOf}
 use Rattle.rules.specs.Machine.{Core, isPending, begun, ended, cancelled, secondHalf, isOwn, waitOf, cancelIf, cancel, begin, release}
-use Rattle.rules.specs.PlanLaws.{admitted, job-admitted}
+use Rattle.rules.specs.PlanLaws.{admitted}
 use Rattle.rules.specs.Reachable.{Reachable}
 use Rattle.rules.specs.Round.{Half, answerOf, verdictOn, takeAll, roundHalves}
-use Rattle.rules.specs.StepLaws.{lent, take-case, running, untouched, start-case, accept-case, cancel-pending}
+use Rattle.rules.specs.StepLaws.{take-case, running, untouched, start-case, accept-case, cancel-pending}
 use Rattle.rules.specs.Done.{DoneFits, begun-fits, ended-fits, cancelled-fits, taken-fits}
 
 -- of every area

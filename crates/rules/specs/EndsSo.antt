@@ -16,14 +16,15 @@ use Rattle.state.specs.declared.DeviceState.{DeviceState}
 use Rattle.state.specs.declared.DeviceState.the-variants.{Free, LockedFor}
 use Rattle.state.specs.declared.Job.{Job}
 use Rattle.rules.specs.Admission.{admits, jobNumber, releaseNumber, cancelNumber, roundNumber}
-use Rattle.rules.specs.History.{Call, submit, releases, cancels, asks, round, History, submitted, roundOf, step}
+use Rattle.rules.specs.History.{Call, submit, releases, cancels, asks, round, History, lent, submitted, roundOf, step}
 use Rattle.rules.specs.Layout.{layoutOf}
 use Rattle.rules.specs.Machine.{Core, isPending, withBoth, begun, ended, cancelled, ready, secondHalf, isOwn, waitOf, cancelIf, cancel, begin, release}
 use Rattle.rules.specs.Memory.{Memory}
 use Rattle.rules.specs.Reachable.{Reachable}
 use Rattle.rules.specs.Round.{answerOf, takeAll, roundHalves}
-use Rattle.rules.specs.StepLaws.{lent, take-case, untouched, start-case, accept-case}
-use Rattle.rules.specs.Ends.{Ends, by-cancel, by-lock, by-answer, taken-so}
+use Rattle.rules.specs.StepLaws.{take-case, untouched, start-case, accept-case}
+use Rattle.rules.specs.Ends.{taken-so}
+use Rattle.rules.specs.Results.{Ends, by-cancel, by-lock, by-answer}
 
 -- area a's job in core e is pending, or there is a reason why it is not
 abbrev EndsSo : Plan → History → ℕ → Call → Core → Type 0

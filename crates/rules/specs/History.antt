@@ -72,9 +72,13 @@ close false t k w = w
 close true false k w = record { rounds = w .rounds + 1; own = w .own; above = w .above; below = w .below; locked = w .locked; byRound = true }
 close true true k w = count k w
 
+-- a history with the memory that is lent to a round
+abbrev pub lent : Memory → History → Half
+lent m h = record { core = h .core; memory = m; done = h .done }
+
 unfoldable pub roundOf : Plan → List DeviceAnswer → Memory → History → History
 roundOf p answers m h =
-    let after = roundHalves p answers (record { core = h .core; memory = m; done = h .done }) in
+    let after = roundHalves p answers (lent m h) in
     record {
       core = after .core;
       tallies = λ a. close (isPending (h .core .jobs a)) (isPending (after .core .jobs a)) (waitOf (layoutOf p) (after .core) a) (h .tallies a);

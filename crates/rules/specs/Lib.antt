@@ -6,6 +6,9 @@ pub mod Round
 pub mod History
 pub mod Queries
 pub mod Session
+pub mod Reach
+pub mod Results
+pub mod Statements
 pub mod MarkedCases
 pub mod PrintedSession
 pub mod ClosedRuns
@@ -26,9 +29,7 @@ pub mod Admitted
 pub mod Calls
 pub mod Runs
 pub mod Demand3
-pub mod Reached
 pub mod ListLaws
-pub mod Reach
 pub mod Changes
 pub mod RequestBytes
 pub mod Requests
@@ -39,6 +40,6 @@ pub mod Done
 pub mod DoneKept
 pub mod Ends
 pub mod EndsSo
-pub mod PartLaws
-pub mod Inside
 pub mod Demand2
+pub mod Demands
+pub mod Reached

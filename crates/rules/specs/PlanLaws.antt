@@ -4,9 +4,7 @@ use mathlib.Core.Path.{_≡_, refl}
 use mathlib.Core.Bool.{Bool, true, false, not}
 use native.Mathlib.Nat.{one-dvd}
 use native.Mathlib.Omega.{arith}
-use borrow.Author.Tests.{not-true, ltb-true, eqb-true}
-use Rattle.arith.specs.Cases.{and-intro}
-use Rattle.arith.specs.FirstNo.{none-elim}
+use borrow.Author.Tests.{eqb-true}
 use Rattle.arith.specs.Plain.{plain, and-plain}
 use Rattle.memory.specs.declared.JobType.{JobType}
 use Rattle.memory.specs.declared.JobType.the-variants.{NoJob, Write, Read, Compare, Erase, BlankCheck, Lock}
@@ -22,10 +20,9 @@ use Rattle.segment.specs.SegmentLaws.{Admitted, segment-some, segment-device}
 use Rattle.segment.specs.Segments.{isLock, unitOf, segmentAt}
 use Rattle.segment.specs.SpanLaws.{one-device}
 use Rattle.segment.specs.declared.Found.the-variants.{At}
-use Rattle.rules.specs.Admission.{isInside, isAligned, lockTask, onOneDevice, rangeDevice, ifAsked, jobQuestions, jobNumber, admits}
+use Rattle.rules.specs.Admission.{isInside, isAligned, lockTask, onOneDevice, rangeDevice, ifAsked, admits}
 use Rattle.rules.specs.Laws.{Laws}
 use Rattle.rules.specs.Layout.{priorityOf, layoutOf}
-use Rattle.rules.specs.Machine.{Core, isPending}
 use Rattle.rules.specs.RankLaws.{ranks-chain, ranks-differ}
 
 -- question 13 is asked of the jobs; a lock request is on its unit anywhere
@@ -60,17 +57,6 @@ unfolding admits
 admitted p a t h e =
     let facts = simp and-plain at e in
     range-admitted p a t h (facts .0) (facts .1 .0)
-
--- number 0: questions 10 to 15 are answered "yes"
-pub job-admitted : (p : Plan) (c : Core) (a : ℕ) (t : Task) → jobNumber p c a t ≡ 0 →
-    (a < p .«area_count») × (isPending (c .jobs a) ≡ false) × (admits p a t ≡ true)
-unfolding jobNumber jobQuestions admits
-job-admitted p c a t e =
-    let answer = none-elim 10 _ (omega arith) e in (
-      ltb-true _ _ (answer 0 (omega arith)),
-      not-true _ (answer 1 (omega arith)),
-      and-intro (answer 2 (omega arith)) (and-intro (answer 3 (omega arith)) (and-intro (answer 4 (omega arith)) (answer 5 (omega arith)))),
-    )
 
 -- an accepted plan has the laws that the machine's theorems need
 pub plan-laws : (p : Plan) → WellFormed p → Laws (layoutOf p) (admits p)

@@ -10,14 +10,12 @@ use Rattle.memory.specs.declared.JobType.{JobType}
 use Rattle.memory.specs.declared.JobType.the-variants.{NoJob, Write, Read, Compare, Erase, BlankCheck, Lock}
 use Rattle.plan.specs.WellFormed.{Among}
 use Rattle.plan.specs.declared.records.Plan.{Plan}
-use Rattle.segment.specs.CutLaws.{Cut}
-use Rattle.segment.specs.Segments.{segmentAt}
 use Rattle.segment.specs.declared.Segment.{Segment}
 use Rattle.state.specs.declared.DeviceState.the-variants.{Runs}
 use Rattle.rules.specs.Admission.{jobNumber, releaseNumber, cancelNumber, infoNumber, memoryInfoNumber, roundNumber}
 use Rattle.rules.specs.History.{Query, status, result, processed, jobInfo, memoryInfo, Call, submit, releases, cancels, asks, round, History}
 use Rattle.rules.specs.Layout.{layoutOf}
-use Rattle.rules.specs.Machine.{Core, isPending, due}
+use Rattle.rules.specs.Machine.{Core, due}
 use Rattle.rules.specs.Memory.{Memory}
 use Rattle.rules.specs.Round.{answerOf, windowPlace, roundHalves}
 
@@ -99,10 +97,6 @@ pub record StoreActed (p : Plan) (c : Core) (answers : List DeviceAnswer) (x d :
 -- It becomes this: "the window part becomes the image bytes".
 abbrev pub storeValue : Plan → Core → Memory → ℕ → ℕ → ℕ
 storeValue p c m a x = getD (m .image) (requestOf p c a .start .0 + (x - windowPlace p a (c .jobs a))) 0
-
--- Each pending job is at a place where it is cut: this too holds of every state that calls lead to.
-abbrev pub AtCuts : Plan → Core → Type 0
-AtCuts p c = (a : ℕ) → isPending (c .jobs a) ≡ true → Cut (segmentAt p a (c .jobs a .task)) (c .jobs a .task) (c .jobs a .processed)
 
 -- the number that a query gets
 abbrev pub queryNumber : Plan → Query → ℕ

@@ -2,13 +2,13 @@
 use Prim.Native.Nat.{ℕ}
 use mathlib.Core.Bool.{true, false}
 use mathlib.Core.Path.{_≡_, refl}
-use mathlib.Core.List.{[], _∷_}
+use mathlib.Core.List.{List, [], _∷_}
+use native.Mathlib.Omega.{arith}
 use lib.ListN.{replicate}
 use Rattle.memory.specs.declared.DeviceAnswer.{DeviceAnswer}
 use Rattle.memory.specs.declared.DeviceAnswer.the-variants.{Pending, Done}
 use Rattle.memory.specs.declared.JobType.the-variants.{Write}
-use Rattle.plan.specs.Examples.{planT}
-use Rattle.plan.specs.declared.records.Plan.{Plan}
+use Rattle.plan.specs.Examples.{planT, examples}
 use Rattle.arith.specs.Bounded as Bounded
 use Rattle.arith.specs.FirstNo as FirstNo
 use Rattle.arith.specs.Multiples as Multiples
@@ -22,10 +22,9 @@ use Rattle.segment.specs.Segments as Segments
 use Rattle.rules.specs.Layout as Layout
 use Rattle.rules.specs.Machine as Machine
 use Rattle.rules.specs.Admission as Admission
-use Rattle.rules.specs.Demand3.{latestTask, ownMost, belowMost}
+use Rattle.rules.specs.Statements.{BoundsReached, ownMost, belowMost}
 use Rattle.rules.specs.Round as Round
 use Rattle.rules.specs.History as History
-use Rattle.rules.specs.History.{History}
 
 -- a round with device 0's answer
 abbrev round : DeviceAnswer → History.Call
@@ -35,23 +34,41 @@ round x = History.round (x ∷ []) (record { image = replicate 64 255; store = r
 abbrev write : ℕ → ℕ → History.Call
 write a address = History.submit a (record { kind = Write; address = record { 0 = address }; length = 4 })
 
--- plan T
-pub plan : Plan
-plan = Records.planOf planT
-
 -- the request is dropped at the limit, tried again, and done at the last answer before the limit
-pub slow : History
-slow = History.run plan (write 0 4 ∷ round Pending ∷ round Pending ∷ round Pending ∷ round Pending ∷ round Done ∷ []) History.start
+abbrev slow : List History.Call
+slow = write 0 4 ∷ round Pending ∷ round Pending ∷ round Pending ∷ round Pending ∷ round Done ∷ []
 
 -- area 1, which ranks above area 0, is submitted when area 0's request has just been started
-pub late : History
-late = History.run plan (write 0 4 ∷ round Pending ∷ write 1 256 ∷ round Pending ∷ []) History.start
+abbrev late : List History.Call
+late = write 0 4 ∷ round Pending ∷ write 1 256 ∷ round Pending ∷ []
+
+-- the whole tallies of the two runs, and the bounds
+tallies : let p = Records.planOf planT in let s = History.run p slow History.start in let w = History.run p late History.start in
+    (s .tallies 0 ≡ record { rounds = 5; own = 4; above = 0; below = 0; locked = 0; byRound = true })
+    × (ownMost p s 0 ≡ 4)
+    × (w .tallies 1 ≡ record { rounds = 1; own = 0; above = 0; below = 1; locked = 0; byRound = false })
+    × (belowMost p w 1 ≡ 1)
+unfolding Bounded.every Bounded.sum FirstNo.firstNo Multiples.multiple Tables.table Parts.upd Number.numberAt Records.deviceAt Records.areaAt Records.granularityAt Records.subAreaAt Records.isRecord Records.recordsUpTo Records.recordsFrom Records.deviceCount Records.areasStart Records.areaCount Records.subAreasStart Records.subAreaCount Records.planOf Questions.sizeIn Mapping.find Mapping.mapped Segments.burstOrUnit Segments.segmentAt Segments.cut Segments.segmentsFrom Segments.spansAfter Segments.spans Segments.ownSum Segments.belowSum Segments.ownBound Segments.belowBound Layout.ranksAbove Layout.layoutOf Machine.jobFailed Machine.jobFinished Machine.takeAnswer Machine.ready Machine.best Machine.start Machine.secondHalf Machine.behind Machine.begin Admission.isInside Admission.isAligned Admission.fitsWindow Admission.jobQuestions Admission.imageFits Admission.storeReaches Admission.jobNumber Admission.roundNumber Round.takeIn Round.takeAll Round.roundHalves History.start History.roundOf History.submitted History.step History.run
+tallies = (refl, refl, refl, refl)
 
 -- own and below are as large as their bounds
-pub bounds-reached :
-    (slow .tallies 0 ≡ record { rounds = 5; own = 4; above = 0; below = 0; locked = 0; byRound = true })
-    × (ownMost plan 0 (latestTask slow 0) ≡ 4)
-    × (late .tallies 1 ≡ record { rounds = 1; own = 0; above = 0; below = 1; locked = 0; byRound = false })
-    × (belowMost plan 1 (latestTask late 1) ≡ 1)
-unfolding Bounded.every Bounded.sum FirstNo.firstNo Multiples.multiple Tables.table Parts.upd Number.numberAt Records.deviceAt Records.areaAt Records.granularityAt Records.subAreaAt Records.isRecord Records.recordsUpTo Records.recordsFrom Records.deviceCount Records.areasStart Records.areaCount Records.subAreasStart Records.subAreaCount Records.planOf Questions.sizeIn Mapping.find Mapping.mapped Segments.burstOrUnit Segments.segmentAt Segments.cut Segments.segmentsFrom Segments.spansAfter Segments.spans Segments.ownSum Segments.belowSum Segments.ownBound Segments.belowBound Layout.ranksAbove Layout.layoutOf Machine.jobFailed Machine.jobFinished Machine.takeAnswer Machine.ready Machine.best Machine.start Machine.secondHalf Machine.behind Machine.begin Admission.isInside Admission.isAligned Admission.fitsWindow Admission.jobQuestions Admission.imageFits Admission.storeReaches Admission.jobNumber Admission.roundNumber Round.takeIn Round.takeAll Round.roundHalves History.start History.roundOf History.submitted History.step History.run plan slow late
-bounds-reached = (refl, refl, refl, refl)
+pub bounds-reached : BoundsReached
+bounds-reached =
+    let (s, own, w, below) = tallies in (
+      record {
+        plan = planT;
+        calls = slow;
+        area = 0;
+        accepted = examples .0;
+        some = rw s (omega arith);
+        reached = rw (s, own);
+      },
+      record {
+        plan = planT;
+        calls = late;
+        area = 1;
+        accepted = examples .0;
+        some = rw w (omega arith);
+        reached = rw (w, below);
+      },
+    )

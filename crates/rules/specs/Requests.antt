@@ -23,13 +23,17 @@ use Rattle.state.specs.declared.DeviceState.the-variants.{Free, Runs, LockedFor
 use Rattle.state.specs.declared.Job.{Job}
 use Rattle.rules.specs.Admission.{usesWindow, fitsWindow, imageFits, storeReaches, roundNumber, admits}
 use Rattle.rules.specs.Layout.{Layout, layoutOf}
-use Rattle.rules.specs.Machine.{Core, due}
+use Rattle.rules.specs.Machine.{Core, isPending, due}
 use Rattle.rules.specs.Memory.{Memory}
 use Rattle.rules.specs.PlanLaws.{admitted}
-use Rattle.rules.specs.Reach.{requestOf, AtCuts}
+use Rattle.rules.specs.Reach.{requestOf}
 use Rattle.rules.specs.Reachable.{Running, DeviceFits, Reachable}
 use Rattle.rules.specs.RequestBytes.{Request, answered, Fits, Apart}
 use Rattle.rules.specs.Round.{windowPlace, memoryOn}
+
+-- Each pending job is at a place where it is cut: this too holds of every state that calls lead to.
+abbrev pub AtCuts : Plan → Core → Type 0
+AtCuts p c = (a : ℕ) → isPending (c .jobs a) ≡ true → Cut (segmentAt p a (c .jobs a .task)) (c .jobs a .task) (c .jobs a .processed)
 
 -- the request of area a with job j
 abbrev pub requestFor : Plan → ℕ → Job → Request

@@ -11,7 +11,7 @@ use Rattle.state.specs.declared.DeviceState.{DeviceState}
 use Rattle.state.specs.declared.DeviceState.the-variants.{Free, Runs, LockedFor}
 use Rattle.state.specs.declared.Job.{Job}
 use Rattle.rules.specs.Admission.{jobNumber, releaseNumber, cancelNumber, infoNumber, memoryInfoNumber, roundNumber}
-use Rattle.rules.specs.History.{Query, status, result, processed, jobInfo, memoryInfo, Call, submit, releases, cancels, asks, round, Tally, History, step}
+use Rattle.rules.specs.History.{Query, status, result, processed, jobInfo, memoryInfo, Call, submit, releases, cancels, asks, round, Tally, History, lent, step}
 use Rattle.rules.specs.Layout.{layoutOf}
 use Rattle.rules.specs.Machine.{Core, due}
 use Rattle.rules.specs.Memory.{Memory}
@@ -70,9 +70,7 @@ memoryOf p (releases a address n) h m = m
 memoryOf p (cancels a) h m = m
 memoryOf p (asks q) h m = m
 memoryOf p (round answers n) h m =
-    pick (eqb (roundNumber p (n .image) (n .store)) 0)
-    (roundHalves p answers (record { core = h .core; memory = n; done = h .done }) .memory)
-    m
+    pick (eqb (roundNumber p (n .image) (n .store)) 0) (roundHalves p answers (lent n h) .memory) m
 
 -- a line of the bench is a call, to which a round's memory is lent
 pub data Line : Type 0 where

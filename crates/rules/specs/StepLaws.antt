@@ -24,10 +24,6 @@ use Rattle.rules.specs.Memory.{Memory}
 use Rattle.rules.specs.Reachable.{Running, DeviceFits, Reachable}
 use Rattle.rules.specs.Round.{Half, answerOf, verdictOn, addDone, doneOn, takeIn, takeAll}
 
--- a history with the memory that is lent to a round
-abbrev pub lent : Memory → History → Half
-lent m h = record { core = h .core; memory = m; done = h .done }
-
 -- the job whose request takes an answer. Tests: the verdict; are polls below the limit?
 abbrev pub jobTaken : Layout → ℕ → Verdict → Bool → Job → Job
 jobTaken p a goesOn true j = j

@@ -19,10 +19,9 @@ use Rattle.rules.specs.Changes.{all-none}
 use Rattle.rules.specs.Layout.{Layout, layoutOf}
 use Rattle.rules.specs.Machine.{Core, Verdict, goesOn, finished, differs, failed, withBoth, takeRunning, takeOn, takeAnswer}
 use Rattle.rules.specs.Memory.{Memory}
-use Rattle.rules.specs.Reach.{AtCuts}
 use Rattle.rules.specs.Reachable.{Reachable}
 use Rattle.rules.specs.RequestBytes.{answered, After, after-more}
-use Rattle.rules.specs.Requests.{requestFor, requestOn, requestAt, memory-on, one-device, request-fits, requests-apart}
+use Rattle.rules.specs.Requests.{AtCuts, requestFor, requestOn, requestAt, memory-on, one-device, request-fits, requests-apart}
 use Rattle.rules.specs.Round.{answerOf, Half, takeIn, takeAll}
 
 -- core e is core c but for device d and the job of the area that it runs

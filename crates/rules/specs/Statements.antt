@@ -1,0 +1,122 @@
+-- document 00: the three demands, after every list of calls
+use Prim.Native.Nat.{ℕ, _+_, _≤_, _<_}
+use mathlib.Core.Bool.{true, false}
+use mathlib.Core.List.{List}
+use mathlib.Core.Logic.{_≢_}
+use mathlib.Core.Path.{_≡_}
+use lib.ListN.{length, getD}
+use Rattle.arith.specs.Cases.{pick}
+use Rattle.memory.specs.declared.DeviceAnswer.{DeviceAnswer}
+use Rattle.memory.specs.declared.DeviceAnswer.the-variants as Answers
+use Rattle.memory.specs.declared.JobType.the-variants.{Write, Read}
+use Rattle.plan.specs.Questions.{areaOf, loadNumber}
+use Rattle.plan.specs.Records.{planOf}
+use Rattle.plan.specs.WellFormed.{Among}
+use Rattle.plan.specs.declared.records.Plan.{Plan}
+use Rattle.segment.specs.Bytes.{joined, mappedByte, mappedBytes}
+use Rattle.segment.specs.Segments.{isLock, ownBound, belowBound}
+use Rattle.state.specs.declared.DeviceState.the-variants.{Runs}
+use Rattle.rules.specs.Admission.{roundNumber}
+use Rattle.rules.specs.History.{Call, round, History, start, step, run}
+use Rattle.rules.specs.Layout.{layoutOf}
+use Rattle.rules.specs.Machine.{Core, isPending}
+use Rattle.rules.specs.Memory.{Memory}
+use Rattle.rules.specs.Reach.{callNumber, isRound, requestOf, ImageActed, imageValue, StoreActed, storeValue}
+use Rattle.rules.specs.Results.{Ends}
+use Rattle.rules.specs.Round.{answerOf, windowPlace}
+use Rattle.rules.specs.Session.{memoryOf}
+
+-- "The lent memory, which is the chip image and the job store, changes [..] only inside requests that the round finishes and the
+-- rules of document 01 let change it." Core c is that before an accepted round.
+pub record RoundChanges (p : Plan) (c : Core) (answers : List DeviceAnswer) (before after : Memory) : Type 0 where
+  -- image and store keep their lengths
+  pub image-length : length (after .image) ≡ length (before .image)
+  pub store-length : length (after .store) ≡ length (before .store)
+  -- a byte that changes is one that a request acts on
+  pub image-changed : (x : ℕ) → getD (after .image) x 0 ≢ getD (before .image) x 0 → (d : ℕ) × ImageActed p c answers x d
+  pub store-changed : (x : ℕ) → getD (after .store) x 0 ≢ getD (before .store) x 0 → (d : ℕ) × StoreActed p c answers x d
+  -- a byte that a request acts on becomes what the rules say
+  pub image-acted : (x d : ℕ) (u : ImageActed p c answers x d) → getD (after .image) x 0 ≡ imageValue p c before (u .area) x
+  pub store-acted : (x d : ℕ) (u : StoreActed p c answers x d) → getD (after .store) x 0 ≡ storeValue p c before (u .area) x
+  -- the round finishes the request
+  pub image-finished : (x d : ℕ) → ImageActed p c answers x d → answerOf answers d ≢ Answers.Pending
+  pub store-finished : (x d : ℕ) → StoreActed p c answers x d → answerOf answers d ≢ Answers.Pending
+  -- "Which bytes can an update job reach": of the image, the mapped bytes of its range
+  pub image-reach : (x d : ℕ) (u : ImageActed p c answers x d) →
+      (k : ℕ) × (k < c .jobs (u .area) .task .length) × (mappedByte p (u .area) (c .jobs (u .area) .task) k ≡ x)
+  -- of the store, the first bytes of its area's window, as many as the job has
+  pub store-reach : (x d : ℕ) (u : StoreActed p c answers x d) →
+      Among (areaOf (p .areas) (u .area) .window .start) (c .jobs (u .area) .task .length) x
+      × (c .jobs (u .area) .task .length ≤ areaOf (p .areas) (u .area) .window .length)
+
+pub record Demand1 (p : Plan) (h : History) : Type 0 where
+  -- "changes only in a round"
+  pub other-calls : (k : Call) (m : Memory) → isRound k ≡ false → memoryOf p k h m ≡ m
+  pub rounds : (answers : List DeviceAnswer) (m : Memory) → roundNumber p (m .image) (m .store) ≡ 0 →
+      RoundChanges p (h .core) answers m (memoryOf p (round answers m) h m)
+  -- "a refused call leaves image, store and manager as they were"
+  pub refused : (k : Call) (m : Memory) → callNumber p k h ≢ 0 → (step p k h ≡ h) × (memoryOf p k h m ≡ m)
+
+-- "Each job is cut, ordered, retried, cancelled and given its result by the rules of document 01.": area a's latest job
+pub record Demand2 (p : Plan) (h : History) (a : ℕ) : Type 0 where
+  -- "requests answered done that, joined in order, are its mapped bytes": as far as it is processed
+  pub joined-so-far : joined (h .done a) ≡ mappedBytes p a (h .core .jobs a .task) 0 (h .core .jobs a .processed)
+  -- "A successful job other than a lock request has requests answered done that, joined in order, are its mapped bytes"
+  pub joined-whole : let j = h .core .jobs a in isPending j ≡ false → j .result .0 ≡ 0 → isLock (j .task .kind) ≡ false →
+      joined (h .done a) ≡ mappedBytes p a (j .task) 0 (j .task .length)
+  -- "each once"
+  pub bytes-once : let t = h .core .jobs a .task in
+      (x y : ℕ) → x < t .length → y < t .length → mappedByte p a t x ≡ mappedByte p a t y → x ≡ y
+  -- "writes take them from it"
+  pub done-write : (answers : List DeviceAnswer) (m : Memory) → roundNumber p (m .image) (m .store) ≡ 0 → (d polls : ℕ) →
+      h .core .devices d ≡ Runs a polls → answerOf answers d ≡ Answers.Done → h .core .jobs a .task .kind ≡ Write →
+      (k : ℕ) → k < requestOf p (h .core) a .length →
+      getD (memoryOf p (round answers m) h m .image) (requestOf p (h .core) a .start .0 + k) 0
+      ≡ getD (m .store) (windowPlace p a (h .core .jobs a) + k) 0
+  -- "reads bring those bytes to the store"
+  pub done-read : (answers : List DeviceAnswer) (m : Memory) → roundNumber p (m .image) (m .store) ≡ 0 → (d polls : ℕ) →
+      h .core .devices d ≡ Runs a polls → answerOf answers d ≡ Answers.Done → h .core .jobs a .task .kind ≡ Read →
+      (k : ℕ) → k < requestOf p (h .core) a .length →
+      getD (memoryOf p (round answers m) h m .store) (windowPlace p a (h .core .jobs a) + k) 0
+      ≡ getD (m .image) (requestOf p (h .core) a .start .0 + k) 0
+  -- a job that a call ends has its result by the rules, and there are no others
+  pub result-so : (k : Call) → let e = step p k h .core in isPending (h .core .jobs a) ≡ true → isPending (e .jobs a) ≡ false →
+      Ends p h e a k (e .jobs a .result .0) × (e .jobs a .result .0 ≤ 3)
+
+-- "patience times (retries + 1), summed over the job's pieces"
+abbrev pub ownMost : Plan → History → ℕ → ℕ
+ownMost p h a = let t = h .core .jobs a .task in ownBound (layoutOf p .limit) (layoutOf p .segment a t) t
+
+-- "patience less one, summed over its stretches on one chip"
+abbrev pub belowMost : Plan → History → ℕ → ℕ
+belowMost p h a = let t = h .core .jobs a .task in belowBound (layoutOf p .limit) (layoutOf p .segment a t) t
+
+-- "Each area's latest job has rounds = own + above + below + locked, and one more if a round ended it.": area a
+pub record Demand3 (p : Plan) (h : History) (a : ℕ) : Type 0 where
+  pub sum : let w = h .tallies a in w .rounds ≡ w .own + w .above + w .below + w .locked + pick (w .byRound) 1 0
+  -- "Own is at most patience times (retries + 1), summed over the job's pieces."
+  pub own : h .tallies a .own ≤ ownMost p h a
+  -- "Below is at most patience less one, summed over its stretches on one chip."
+  pub below : h .tallies a .below ≤ belowMost p h a
+
+-- "This holds after every list of jobs, locks, releases, cancels, queries and rounds from an accepted load, refused ones
+-- included, whatever the chips answer and whatever image and store hold."
+pub record Demands (l : List ℕ) (cs : List Call) : Type 0 where
+  pub demand1 : Demand1 (planOf l) (run (planOf l) cs start)
+  pub demand2 : (a : ℕ) → Demand2 (planOf l) (run (planOf l) cs start) a
+  pub demand3 : (a : ℕ) → Demand3 (planOf l) (run (planOf l) cs start) a
+
+abbrev pub AllDemands : Type 0
+AllDemands = (l : List ℕ) → loadNumber l ≡ 0 → (cs : List Call) → Demands l cs
+
+-- the bounds of demand 3 are reached: an accepted load, a list of calls and an area where own is as large as it may be, and below
+pub record BoundReached (count : History → ℕ → ℕ) (most : Plan → History → ℕ → ℕ) : Type 0 where
+  pub plan : List ℕ
+  pub calls : List Call
+  pub area : ℕ
+  pub accepted : loadNumber plan ≡ 0
+  pub some : 1 ≤ count (run (planOf plan) calls start) area
+  pub reached : count (run (planOf plan) calls start) area ≡ most (planOf plan) (run (planOf plan) calls start) area
+
+abbrev pub BoundsReached : Type 0
+BoundsReached = BoundReached (λ h a. h .tallies a .own) ownMost × BoundReached (λ h a. h .tallies a .below) belowMost
