@@ -1,19 +1,15 @@
 -- The three demands, for every accepted load and every list of calls.
-use mathlib.Core.List.{List}
-use mathlib.Core.Path.{_≡_}
-use Prim.Native.Nat.{ℕ}
 use Rattle.plan.specs.Accepted.{accepted}
 use Rattle.plan.specs.Records.{planOf}
 use Rattle.plan.specs.WellFormed.{WellFormed}
-use Rattle.plan.specs.declared.records.Plan.{Plan}
 use Rattle.rules.specs.Demand1.{demand1}
 use Rattle.rules.specs.Demand2.{demand2}
 use Rattle.rules.specs.Demand3.{demand3}
 use Rattle.rules.specs.DoneKept.{done-fits}
-use Rattle.rules.specs.History.{Call, start, run}
+use Rattle.rules.specs.History.{start, run}
 use Rattle.rules.specs.PlanLaws.{plan-laws}
 use Rattle.rules.specs.Runs.{history-fits}
-use Rattle.rules.specs.Statements.{Demands, AllDemands}
+use Rattle.rules.specs.Statements.{AllDemands}
 
 -- every accepted load
 pub demands : AllDemands

@@ -22,7 +22,7 @@ use Rattle.rules.specs.Admitted.{job-admitted}
 use Rattle.rules.specs.Admission.{admits, jobNumber, releaseNumber, cancelNumber, roundNumber}
 use Rattle.rules.specs.History.{Call, submit, releases, cancels, asks, round, History, lent, start, roundOf, submitted, step, run}
 use Rattle.rules.specs.Layout.{layoutOf}
-use Rattle.rules.specs.Machine.{Core, isPending, begun, ended, cancelled, secondHalf, isOwn, waitOf, cancelIf, cancel, begin, release}
+use Rattle.rules.specs.Machine.{Core, isPending, begun, secondHalf, isOwn, waitOf, cancelIf, cancel, begin, release}
 use Rattle.rules.specs.PlanLaws.{admitted}
 use Rattle.rules.specs.Reachable.{Reachable}
 use Rattle.rules.specs.Round.{Half, answerOf, verdictOn, takeAll, roundHalves}

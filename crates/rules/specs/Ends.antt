@@ -1,7 +1,6 @@
 -- A job that takes an answer has its result by the rules.
 use Prim.Native.Nat.{ℕ, _+_, _≤_}
 use mathlib.Core.Bool.{Bool, true, false, true≢false}
-use mathlib.Core.List.{List}
 use mathlib.Core.Path.{_≡_, refl, sym, _∙_}
 use native.Mathlib.Omega.{arith}
 use borrow.Author.Tests.{ltb-false, leb-true, eqb-true, le-leb}
@@ -10,14 +9,12 @@ use Rattle.arith.specs.Cases.{pick}
 use Rattle.memory.specs.declared.DeviceAnswer.{DeviceAnswer}
 use Rattle.memory.specs.declared.DeviceAnswer.the-variants as Answers
 use Rattle.plan.specs.declared.records.Plan.{Plan}
-use Rattle.segment.specs.Segments.{isLock}
-use Rattle.state.specs.declared.DeviceState.the-variants.{Runs, LockedFor}
 use Rattle.state.specs.declared.Job.{Job}
-use Rattle.rules.specs.History.{Call, cancels, round, History}
+use Rattle.rules.specs.History.{Call, History}
 use Rattle.rules.specs.Layout.{layoutOf}
-use Rattle.rules.specs.Machine.{Core, isPending, isCancelling, due, need, finished, differs, afterFailed, jobFailed, afterFinished, jobFinished, afterDiffers, jobDiffers, isOwn, waitOf}
-use Rattle.rules.specs.Memory.{Memory, agrees, verdictOf}
-use Rattle.rules.specs.Round.{answerOf, windowPlace, takeAll}
+use Rattle.rules.specs.Machine.{Core, isPending, isCancelling, due, finished, differs, afterFailed, jobFailed, afterFinished, jobFinished, afterDiffers, jobDiffers}
+use Rattle.rules.specs.Memory.{Memory, verdictOf}
+use Rattle.rules.specs.Round.{windowPlace}
 use Rattle.rules.specs.Results.{isDone, isOver, agreesDue, Answered, Ends, last-piece, no-retry, byte-differs, was-cancelled, by-cancel, by-lock, by-answer}
 use Rattle.rules.specs.StepLaws.{jobTaken}
 

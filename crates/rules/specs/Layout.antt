@@ -1,6 +1,6 @@
 -- What the machine asks of a plan.
-use Prim.Native.Nat.{ℕ, _<_, _≤_}
-use mathlib.Core.Bool.{Bool, true, false, _&&_, _||_}
+use Prim.Native.Nat.{ℕ}
+use mathlib.Core.Bool.{Bool, _&&_, _||_}
 use lib.Dec.{ltb, eqb}
 use Rattle.memory.specs.declared.Task.{Task}
 use Rattle.plan.specs.Questions.{areaOf, deviceOf}

@@ -1,9 +1,8 @@
 -- What an accepted plan and an admitted job give the machine.
 use Prim.Native.Nat.{ℕ, _+_, _<_, _∣_}
 use mathlib.Core.Path.{_≡_, refl}
-use mathlib.Core.Bool.{Bool, true, false, not}
+use mathlib.Core.Bool.{Bool, true, not}
 use native.Mathlib.Nat.{one-dvd}
-use native.Mathlib.Omega.{arith}
 use borrow.Author.Tests.{eqb-true}
 use Rattle.arith.specs.Plain.{plain, and-plain}
 use Rattle.memory.specs.declared.JobType.{JobType}

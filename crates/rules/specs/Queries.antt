@@ -1,7 +1,5 @@
 -- document 01, "Queries": what the accepted ones give
 use Prim.Native.Nat.{ℕ, _-_}
-use mathlib.Core.Bool.{Bool}
-use Rattle.memory.specs.declared.JobStatus.{JobStatus}
 use Rattle.memory.specs.declared.LogicalAddress.{LogicalAddress}
 use Rattle.plan.specs.Questions.{subAreaOf, sizeOf}
 use Rattle.plan.specs.Records.{noGranularity}
@@ -15,7 +13,6 @@ use Rattle.segment.specs.declared.Found.the-variants.{Outside, At}
 use Rattle.segment.specs.declared.Segment.{Segment}
 use Rattle.state.specs.declared.DeviceState.{DeviceState}
 use Rattle.state.specs.declared.DeviceState.the-variants.{Free, Runs, LockedFor}
-use Rattle.state.specs.declared.Job.{Job}
 use Rattle.state.specs.declared.JobInfo.{JobInfo}
 use Rattle.state.specs.declared.MemoryInfo.{MemoryInfo}
 use Rattle.state.specs.declared.RequestInfo.{RequestInfo}

@@ -11,7 +11,7 @@ use Rattle.segment.specs.declared.Segment.{Segment}
 use Rattle.state.specs.declared.DeviceState.{DeviceState}
 use Rattle.state.specs.declared.DeviceState.the-variants.{Free, Runs, LockedFor}
 use Rattle.state.specs.declared.Job.{Job}
-use Rattle.rules.specs.Layout.{Layout, layoutOf}
+use Rattle.rules.specs.Layout.{layoutOf}
 use Rattle.rules.specs.Machine.{Core, Verdict, goesOn, finished, differs, failed, due, takeAnswer, secondHalf}
 use Rattle.rules.specs.Memory.{Memory, verdictOf, memoryAfter}
 

@@ -17,10 +17,8 @@ use Rattle.state.specs.declared.DeviceState.{DeviceState}
 use Rattle.state.specs.declared.DeviceState.the-variants.{Free, Runs, LockedFor}
 use Rattle.state.specs.declared.Job.{Job}
 use Rattle.rules.specs.Admission.{admits, cancelQuestions, cancelNumber}
-use Rattle.rules.specs.History.{History}
 use Rattle.rules.specs.Layout.{Layout, layoutOf}
 use Rattle.rules.specs.Machine.{Core, isPending, Verdict, goesOn, finished, differs, failed, due, jobFailed, jobFinished, jobDiffers, takeRunning, takeOn, takeAnswer, withDevice, withBoth, ended, ready, Choice, nobody, area, better, best, startJob, startChoice, startOn, start}
-use Rattle.rules.specs.Memory.{Memory}
 use Rattle.rules.specs.Reachable.{Running, DeviceFits, Reachable}
 use Rattle.rules.specs.Round.{Half, answerOf, verdictOn, addDone, doneOn, takeIn, takeAll}
 
