@@ -2,15 +2,21 @@
 -- says of other states is our choice: it asks just what the code of a round rests on.
 use Prim.Native.Nat.{ℕ, _+_, _≤_, _<_}
 use mathlib.Core.Bool.{Bool, true, false, not, _&&_}
+use mathlib.Core.List.{List}
 use mathlib.Core.Path.{_≡_}
 use lib.Dec.{ltb, leb, eqb}
-use borrow.Author.Tests.{eq-eqb, ne-eqb, le-leb, lt-leb}
-use Rattle.plan.specs.Questions.{areaOf, deviceOf, lengthSum}
+use lib.ListN.{getD}
+use borrow.Author.Tests.{eq-eqb, ne-eqb, le-leb, lt-leb, lt-ltb, le-ltb}
+use Rattle.arith.specs.Bounded.{every}
+use Rattle.plan.specs.Questions.{areaOf, deviceOf, lengthSum, countsFit}
 use Rattle.plan.specs.declared.records.Plan.{Plan}
 use Rattle.rules.specs.Admission.{usesWindow, ifAsked}
 use Rattle.rules.specs.Machine.{isPending}
 use Rattle.segment.specs.Segments.{isLock, segmentAt}
 use Rattle.segment.specs.declared.Segment.{Segment}
+use Rattle.state.specs.Fresh.{freshArea, freeDevice}
+use Rattle.state.specs.declared.Area.{Area}
+use Rattle.state.specs.declared.Device.{Device}
 use Rattle.state.specs.declared.DeviceState.{DeviceState}
 use Rattle.state.specs.declared.DeviceState.the-variants.{Free, Runs, LockedFor}
 use Rattle.state.specs.declared.Job.{Job}
@@ -27,13 +33,53 @@ segmentFits p d a j s =
     && (leb (j .processed + s .length) (j .task .length)
     && ifAsked (usesWindow (j .task .kind)) (leb (j .processed + s .length) (areaOf (p .areas) a .window .length))))
 
+-- device d may run the request of area a, whose job is j
+unfoldable pub requestSound : Plan → ℕ → ℕ → ℕ → Job → Bool
+requestSound p d a polls j =
+    ltb a (p .«area_count»)
+    && (jobRuns j polls (deviceOf (p .devices) d .«poll_limit») && segmentFits p d a j (segmentAt p a (j .task) (j .processed)))
+
 abbrev pub stateSound : Plan → ℕ → (ℕ → Job) → DeviceState → Bool
 stateSound p d jobs Free = true
 stateSound p d jobs (LockedFor a) = ltb a (p .«area_count»)
-stateSound p d jobs (Runs a polls) =
-    ltb a (p .«area_count»)
-    && (jobRuns (jobs a) polls (deviceOf (p .devices) d .«poll_limit»)
-    && segmentFits p d a (jobs a) (segmentAt p a (jobs a .task) (jobs a .processed)))
+stateSound p d jobs (Runs a polls) = requestSound p d a polls (jobs a)
+
+-- an area's job, and what a device does, in the manager's arrays
+abbrev pub jobIn : List Area → ℕ → Job
+jobIn l a = getD l a freshArea .job
+
+abbrev pub stateIn : List Device → ℕ → DeviceState
+stateIn l d = getD l d freeDevice .state
+
+-- "Does the state pass the team's soundness test?" The manager of all zeros has no device, so it does not.
+unfoldable pub isSound : Plan → List Area → List Device → Bool
+isSound p areas devices =
+    countsFit (p .«device_count») (p .«area_count») (p .«sub_area_count»)
+    && every (λ d. stateSound p d (jobIn areas) (stateIn devices d)) (p .«device_count»)
+
+module _ (p : Plan) (d a polls : ℕ) (j : Job) where
+  pub unknown-area : p .«area_count» ≤ a → false ≡ requestSound p d a polls j
+  unfolding requestSound
+  unknown-area h = rw (le-ltb _ _ h)
+
+  pub request-idle : a < p .«area_count» → jobRuns j polls (deviceOf (p .devices) d .«poll_limit») ≡ false → false ≡ requestSound p d a polls j
+  unfolding requestSound
+  request-idle h e = simp (lt-ltb _ _ h, e)
+
+  pub request-decides : a < p .«area_count» → jobRuns j polls (deviceOf (p .devices) d .«poll_limit») ≡ true → (s : Segment) →
+      s ≡ segmentAt p a (j .task) (j .processed) → segmentFits p d a j s ≡ requestSound p d a polls j
+  unfolding requestSound
+  request-decides h e s q = simp (lt-ltb _ _ h, e, q)
+
+module _ (p : Plan) (areas : List Area) (devices : List Device) where
+  pub other-counts : countsFit (p .«device_count») (p .«area_count») (p .«sub_area_count») ≡ false → false ≡ isSound p areas devices
+  unfolding isSound
+  other-counts e = rw e
+
+  pub devices-decide : countsFit (p .«device_count») (p .«area_count») (p .«sub_area_count») ≡ true →
+      every (λ d. stateSound p d (jobIn areas) (stateIn devices d)) (p .«device_count») ≡ isSound p areas devices
+  unfolding isSound
+  devices-decide e = rw e
 
 -- the test by the cases that the code takes apart
 module _ (p : Plan) (d a : ℕ) (j : Job) (s : Segment) where
