@@ -1,5 +1,5 @@
--- document 01, question 9, the soundness test: what it asks of one device. Every state that an accepted load leads to passes it; what it
--- says of other states is our choice: it asks just what the code of a round rests on.
+-- document 01, question 9, the soundness test. Every state that an accepted load leads to passes it (SoundLaws); what it says of other states
+-- is our choice: it asks just what the code of a round rests on.
 use Prim.Native.Nat.{ℕ, _+_, _≤_, _<_}
 use mathlib.Core.Bool.{Bool, true, false, not, _&&_}
 use mathlib.Core.List.{List}
@@ -41,7 +41,7 @@ requestSound p d a polls j =
 
 abbrev pub stateSound : Plan → ℕ → (ℕ → Job) → DeviceState → Bool
 stateSound p d jobs Free = true
-stateSound p d jobs (LockedFor a) = ltb a (p .«area_count»)
+stateSound p d jobs (LockedFor a) = true
 stateSound p d jobs (Runs a polls) = requestSound p d a polls (jobs a)
 
 -- an area's job, and what a device does, in the manager's arrays

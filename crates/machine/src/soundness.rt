@@ -89,7 +89,7 @@ fn state_sound(plan: Plan, device: usize, areas: [Area; 8], state: DeviceState) 
             polls,
             areas,
         ),
-        DeviceState::LockedFor(area) => (area as usize) < plan.area_count,
+        DeviceState::LockedFor(_) => true,
     }
 }
 

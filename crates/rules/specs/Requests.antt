@@ -103,7 +103,7 @@ module _ (p : Plan) (w : WellFormed p) where
       omega (arith, device-sum d (omega arith))
 
   -- so within the image
-  device-end : (d : ℕ) → d < p .«device_count» → deviceEnd (deviceOf (p .devices) d) ≤ lengthSum (p .devices) (p .«device_count»)
+  pub device-end : (d : ℕ) → d < p .«device_count» → deviceEnd (deviceOf (p .devices) d) ≤ lengthSum (p .devices) (p .«device_count»)
   device-end d h = omega (arith, device-sum d h, sum-mono (λ i. deviceOf (p .devices) i .length) (suc d) (p .«device_count») h)
 
 -- area a's request is a good segment of its job, and lies in its window if the job uses it
@@ -117,7 +117,7 @@ pub record Placed (p : Plan) (c : Core) (a : ℕ) : Type 0 where
 
 module _ {l : Layout} {ok : ℕ → Task → Bool} {c : Core} (reach : Reachable l ok c) where
   -- what holds of an area that a device runs
-  running-on : {d a q : ℕ} → c .devices d ≡ Runs a q → Running l d a q (c .jobs a)
+  pub running-on : {d a q : ℕ} → c .devices d ≡ Runs a q → Running l d a q (c .jobs a)
   running-on {d} e = subst (DeviceFits l (c .jobs) d) e (reach .devices d)
 
   -- no two devices run one area
