@@ -11,7 +11,7 @@ use Rattle.arith.specs.Bounded.{every}
 use Rattle.plan.specs.Questions.{areaOf, deviceOf, lengthSum, countsFit}
 use Rattle.plan.specs.declared.records.Plan.{Plan}
 use Rattle.rules.specs.Admission.{usesWindow, ifAsked}
-use Rattle.rules.specs.Machine.{isPending}
+use Rattle.rules.specs.Machine.{Core, isPending}
 use Rattle.segment.specs.Segments.{isLock, segmentAt}
 use Rattle.segment.specs.declared.Segment.{Segment}
 use Rattle.state.specs.Fresh.{freshArea, freeDevice}
@@ -50,6 +50,10 @@ jobIn l a = getD l a freshArea .job
 
 abbrev pub stateIn : List Device → ℕ → DeviceState
 stateIn l d = getD l d freeDevice .state
+
+-- both, as the rules see them
+abbrev pub coreIn : List Area → List Device → Core
+coreIn areas devices = record { jobs = jobIn areas; devices = stateIn devices }
 
 -- "Does the state pass the team's soundness test?" The manager of all zeros has no device, so it does not.
 unfoldable pub isSound : Plan → List Area → List Device → Bool

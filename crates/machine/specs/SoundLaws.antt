@@ -1,11 +1,14 @@
 -- The states that pass the soundness test.
 use Prim.Native.Nat.{ℕ, _+_, _≤_}
 use mathlib.Core.Bool.{Bool, true, false, not}
+use mathlib.Core.List.{List}
 use mathlib.Core.Path.{_≡_, refl, ap}
 use native.Mathlib.Omega.{arith}
 use borrow.Author.Tests.{eq-eqb, le-leb, lt-ltb}
+use Rattle.arith.specs.Bounded.{every-intro}
 use Rattle.arith.specs.Cases.{and-intro}
-use Rattle.plan.specs.Questions.{areaOf, deviceOf, deviceEnd, lengthSum}
+use Rattle.plan.specs.Questions.{areaOf, deviceOf, deviceEnd, lengthSum, within, countsFit}
+use Rattle.plan.specs.Records.{emptyPlan}
 use Rattle.plan.specs.WellFormed.{WellFormed}
 use Rattle.plan.specs.declared.records.Plan.{Plan}
 use Rattle.rules.specs.Admission.{admits, usesWindow, ifAsked}
@@ -14,9 +17,11 @@ use Rattle.rules.specs.Machine.{Core}
 use Rattle.rules.specs.Reach.{requestOf}
 use Rattle.rules.specs.Reachable.{Reachable}
 use Rattle.rules.specs.Requests.{AtCuts, placed, running-on, device-end}
+use Rattle.state.specs.declared.Area.{Area}
+use Rattle.state.specs.declared.Device.{Device}
 use Rattle.state.specs.declared.DeviceState.{DeviceState}
 use Rattle.state.specs.declared.DeviceState.the-variants.{Free, Runs, LockedFor}
-use Rattle.machine.specs.Sound.{jobRuns, segmentFits, requestSound, stateSound}
+use Rattle.machine.specs.Sound.{jobRuns, segmentFits, requestSound, stateSound, jobIn, stateIn, coreIn, isSound}
 
 -- a question that is asked only sometimes
 asked : (u q : Bool) → (u ≡ true → q ≡ true) → ifAsked u q ≡ true
@@ -49,3 +54,23 @@ module _ (p : Plan) (w : WellFormed p) (c : Core) (reach : Reachable (layoutOf p
 
   pub device-sound : stateSound p d (c .jobs) (c .devices d) ≡ true
   device-sound = sound-on (c .devices d) refl
+
+-- a count in its bounds
+counted : (most n : ℕ) → 1 ≤ n → n ≤ most → within most n ≡ true
+counted most n some few = and-intro (le-leb 1 n some) (le-leb n most few)
+
+-- the whole test
+pub reached-sound : (p : Plan) → WellFormed p → (areas : List Area) (devices : List Device) →
+    Reachable (layoutOf p) (admits p) (coreIn areas devices) → AtCuts p (coreIn areas devices) → isSound p areas devices ≡ true
+unfolding isSound countsFit
+reached-sound p w areas devices reach cuts =
+    and-intro
+    (and-intro (counted _ _ (w .device-some) (w .device-most))
+    (and-intro (counted _ _ (w .area-some) (w .area-most)) (counted _ _ (w .sub-area-some) (w .sub-area-most))))
+    (every-intro (λ d. stateSound p d (jobIn areas) (stateIn devices d)) (p .«device_count») λ d _.
+    device-sound p w (coreIn areas devices) reach cuts d)
+
+-- the manager of all zeros
+pub zero-unsound : (areas : List Area) (devices : List Device) → isSound emptyPlan areas devices ≡ false
+unfolding isSound countsFit emptyPlan
+zero-unsound areas devices = refl
