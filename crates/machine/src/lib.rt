@@ -1,3 +1,4 @@
 // The machine in code: what happens to one job, one device, one area.
 pub mod jobs;
+pub mod questions;
 pub mod soundness;
