@@ -1,23 +1,28 @@
 -- Demand 2 holds in every reachable state.
 use Prim.Native.Nat.{ℕ, _+_, _-_, _<_}
-use mathlib.Core.List.{List}
-use mathlib.Core.Path.{_≡_, ap, subst, _∙_}
+use mathlib.Core.Bool.{true, false}
+use mathlib.Core.List.{List, []}
+use mathlib.Core.Path.{_≡_, refl, ap, subst, _∙_}
 use native.Mathlib.Omega.{arith}
+use borrow.Author.Tests.{eq-eqb}
 use lib.ListN.{getD}
+use Rattle.arith.specs.Parts.{upd-same}
 use Rattle.memory.specs.declared.DeviceAnswer.{DeviceAnswer}
 use Rattle.memory.specs.declared.DeviceAnswer.the-variants as Answers
 use Rattle.memory.specs.declared.JobType.the-variants.{Write, Read}
+use Rattle.memory.specs.declared.Task.{Task}
 use Rattle.plan.specs.WellFormed.{WellFormed}
 use Rattle.plan.specs.declared.records.Plan.{Plan}
 use Rattle.segment.specs.Bytes.{joined, mappedBytes}
 use Rattle.segment.specs.BytesLaws.{mapped-once}
 use Rattle.state.specs.declared.DeviceState.the-variants.{Runs}
-use Rattle.rules.specs.Admission.{roundNumber, admits}
+use Rattle.rules.specs.Admission.{jobNumber, cancelNumber, roundNumber, admits}
 use Rattle.rules.specs.DoneKept.{Fits}
 use Rattle.rules.specs.Ends.{ends-few}
 use Rattle.rules.specs.EndsSo.{ends-so}
-use Rattle.rules.specs.History.{History, round}
+use Rattle.rules.specs.History.{submit, cancels, round, noTally, History, submitted, step}
 use Rattle.rules.specs.Layout.{layoutOf}
+use Rattle.rules.specs.Machine.{isPending, isCancelling, isOwn, waitOf, begin, cancel}
 use Rattle.rules.specs.Memory.{Memory}
 use Rattle.rules.specs.PlanLaws.{plan-laws}
 use Rattle.rules.specs.Reach.{actedBytes, broughtBytes, imageBytes, windowBytes, actedByte, requestOf}
@@ -58,6 +63,21 @@ module _ (p : Plan) (h : History) (first : Demand1 p h) (answers : List DeviceAn
       changes .store-acted x d (record { known = known; area = a; polls = polls; runs = runs; inside = omega (arith, all) })
       ∙ ap (λ i. getD (m .image) (s .start .0 + i) 0) offset
 
+module _ (p : Plan) (h : History) (a : ℕ) where
+  -- a job that is accepted
+  job-accepted : (t : Task) → jobNumber p (h .core) a t ≡ 0 → let e = step p (submit a t) h in let j = e .core .jobs a in
+      (isPending j ≡ true) × (j .task ≡ t) × (j .processed ≡ 0) × (j .result ≡ h .core .jobs a .result) × (e .tallies a ≡ noTally) × (e .done a ≡ [])
+  unfolding step submitted begin
+  job-accepted t e = rw (eq-eqb (jobNumber p (h .core) a t) 0 e, upd-same) (refl, refl, refl, refl, upd-same (h .tallies) a noTally, upd-same (h .done) a [])
+
+  -- a cancel that is accepted. Test: does the job's request run?
+  cancel-accepted : cancelNumber p (h .core) a ≡ 0 → let j = step p (cancels a) h .core .jobs a in
+      (isOwn (waitOf (layoutOf p) (h .core) a) ≡ false → (isPending j ≡ false) × (j .result .0 ≡ 3))
+      × (isOwn (waitOf (layoutOf p) (h .core) a) ≡ true → (isPending j ≡ true) × (isCancelling (j .status) ≡ true))
+  unfolding step cancel
+  cancel-accepted e =
+      rw (eq-eqb (cancelNumber p (h .core) a) 0 e) (λ o. rw (o, upd-same) (refl, refl), λ o. rw (o, upd-same) (refl, refl))
+
 -- demand 2
 pub demand2 : (p : Plan) → WellFormed p → (h : History) → Reachable (layoutOf p) (admits p) (h .core) → Fits p h → Demand1 p h → (a : ℕ) →
     Demand2 p h a
@@ -71,5 +91,7 @@ demand2 p w h reach fits first a =
       bytes-once = λ x y l. mapped-once p w a _ (fits a .admitted (omega arith)) x y l;
       done-write = λ answers m e d polls runs done. write-done p h first answers m e d a polls (known d polls runs) runs done;
       done-read = λ answers m e d polls runs done. read-done p h first answers m e d a polls (known d polls runs) runs done;
+      accepted-job = job-accepted p h a;
+      accepted-cancel = cancel-accepted p h a;
       result-so = λ k e f. let so = ends-so p k h reach a e f in (so, ends-few so);
     }

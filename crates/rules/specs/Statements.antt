@@ -1,7 +1,7 @@
 -- document 00: the three demands, after every list of calls
 use Prim.Native.Nat.{ℕ, _+_, _≤_, _<_}
 use mathlib.Core.Bool.{true, false}
-use mathlib.Core.List.{List}
+use mathlib.Core.List.{List, []}
 use mathlib.Core.Logic.{_≢_}
 use mathlib.Core.Path.{_≡_}
 use lib.ListN.{length, getD}
@@ -9,6 +9,7 @@ use Rattle.arith.specs.Cases.{pick}
 use Rattle.memory.specs.declared.DeviceAnswer.{DeviceAnswer}
 use Rattle.memory.specs.declared.DeviceAnswer.the-variants as Answers
 use Rattle.memory.specs.declared.JobType.the-variants.{Write, Read}
+use Rattle.memory.specs.declared.Task.{Task}
 use Rattle.plan.specs.Questions.{areaOf, loadNumber}
 use Rattle.plan.specs.Records.{planOf}
 use Rattle.plan.specs.WellFormed.{Among}
@@ -16,10 +17,10 @@ use Rattle.plan.specs.declared.records.Plan.{Plan}
 use Rattle.segment.specs.Bytes.{joined, mappedByte, mappedBytes}
 use Rattle.segment.specs.Segments.{isLock, ownBound, belowBound}
 use Rattle.state.specs.declared.DeviceState.the-variants.{Runs}
-use Rattle.rules.specs.Admission.{roundNumber}
-use Rattle.rules.specs.History.{Call, round, History, start, step, run}
+use Rattle.rules.specs.Admission.{jobNumber, cancelNumber, roundNumber}
+use Rattle.rules.specs.History.{Call, submit, cancels, round, noTally, History, start, step, run}
 use Rattle.rules.specs.Layout.{layoutOf}
-use Rattle.rules.specs.Machine.{Core, isPending}
+use Rattle.rules.specs.Machine.{Core, isPending, isCancelling, isOwn, waitOf}
 use Rattle.rules.specs.Memory.{Memory}
 use Rattle.rules.specs.Reach.{callNumber, isRound, requestOf, ImageActed, imageValue, StoreActed, storeValue}
 use Rattle.rules.specs.Results.{Ends}
@@ -79,6 +80,13 @@ pub record Demand2 (p : Plan) (h : History) (a : ℕ) : Type 0 where
       (k : ℕ) → k < requestOf p (h .core) a .length →
       getD (memoryOf p (round answers m) h m .store) (windowPlace p a (h .core .jobs a) + k) 0
       ≡ getD (m .image) (requestOf p (h .core) a .start .0 + k) 0
+  -- "An accepted job makes its area pending and sets processed length and counts to 0; the old result stands until the job ends."
+  pub accepted-job : (t : Task) → jobNumber p (h .core) a t ≡ 0 → let e = step p (submit a t) h in let j = e .core .jobs a in
+      (isPending j ≡ true) × (j .task ≡ t) × (j .processed ≡ 0) × (j .result ≡ h .core .jobs a .result) × (e .tallies a ≡ noTally) × (e .done a ≡ [])
+  -- "A cancel ends a job without a running request immediately, result 3. With one running, the area stays pending"
+  pub accepted-cancel : cancelNumber p (h .core) a ≡ 0 → let j = step p (cancels a) h .core .jobs a in
+      (isOwn (waitOf (layoutOf p) (h .core) a) ≡ false → (isPending j ≡ false) × (j .result .0 ≡ 3))
+      × (isOwn (waitOf (layoutOf p) (h .core) a) ≡ true → (isPending j ≡ true) × (isCancelling (j .status) ≡ true))
   -- a job that a call ends has its result by the rules, and there are no others
   pub result-so : (k : Call) → let e = step p k h .core in isPending (h .core .jobs a) ≡ true → isPending (e .jobs a) ≡ false →
       Ends p h e a k (e .jobs a .result .0) × (e .jobs a .result .0 ≤ 3)
