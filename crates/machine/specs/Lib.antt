@@ -1,3 +1,4 @@
 pub mod JobLaws
 pub mod Sound
 pub mod SoundLaws
+pub mod DeviceLaws
