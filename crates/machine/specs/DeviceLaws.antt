@@ -5,10 +5,11 @@ use mathlib.Core.List.{List}
 use mathlib.Core.Path.{_≡_, refl, ap, sym, _∙_}
 use lib.Dec.{eqb}
 use lib.ListN.{length, List·getD-eq-default}
-use Rattle.arith.specs.Cases.{by-bool}
+use Rattle.arith.specs.Cases.{pick, by-bool}
+use Rattle.arith.specs.Parts.{upd-same}
 use Rattle.plan.specs.declared.records.Plan.{Plan}
 use Rattle.rules.specs.Layout.{Layout, layoutOf}
-use Rattle.rules.specs.Machine.{isOwn, behind, waitOn, waitOf}
+use Rattle.rules.specs.Machine.{Core, cancelled, ended, isOwn, behind, waitOn, waitOf, cancel}
 use Rattle.segment.specs.Segments.{segmentAt}
 use Rattle.segment.specs.declared.Segment.{Segment}
 use Rattle.state.specs.Fresh.{freeDevice}
@@ -41,3 +42,9 @@ module _ (p : Plan) (areas : List Area) (devices : List Device) (a : ℕ) (s : S
   -- one that the manager does not have does nothing
   pub past-devices : length devices ≤ s .device → false ≡ isOwn (waitOf (layoutOf p) (coreIn areas devices) a)
   past-devices h = sym (ap (λ x. runsFor a (x .state)) (List·getD-eq-default devices freeDevice h)) ∙ area-runs
+
+-- the job of a cancelled area. Test: does its request run?
+pub cancel-job : (p : Layout) (a : ℕ) (c : Core) (t : Bool) → t ≡ isOwn (waitOf p c a) →
+    pick t (cancelled (c .jobs a)) (ended 3 (c .jobs a)) ≡ cancel p a c .jobs a
+unfolding cancel
+cancel-job p a c t e = rw e (by-bool (isOwn (waitOf p c a)) (λ f. rw f (sym (upd-same (c .jobs) a _))) (λ f. rw f (sym (upd-same (c .jobs) a _))))

@@ -2,14 +2,18 @@
 ghost use mathlib.Core.Path.{_≡_};
 ghost use Prim.Native.Nat.{_≤_, _<_};
 ghost use Rattle.rules.specs.Layout.{layoutOf};
-ghost use Rattle.rules.specs.Machine.{isOwn, waitOf};
+ghost use Rattle.rules.specs.Machine.{isOwn, waitOf, cancel};
 ghost use Rattle.machine.specs.Sound.{coreIn};
 ghost use Rattle.machine.specs.DeviceLaws.{runsFor};
+use crate::jobs::cancelled;
+use crate::jobs::ended;
+use memory::JobResult;
 use plan::records::Plan;
 use segment::segment_at;
 use state::Area;
 use state::Device;
 use state::DeviceState;
+use state::Job;
 
 fn runs_for(state: DeviceState, area: usize) -> bool
     ensures { λ r. ⌜ r ≡ runsFor area state ⌝ }
@@ -40,4 +44,17 @@ pub fn area_runs(plan: Plan, areas: [Area; 8], devices: [Device; 4], area: usize
     let holder = devices[device];
     let state = holder.state;
     runs_for(state, area)
+}
+
+// The area's job after a cancel: over at once, unless its request runs.
+pub fn cancelled_job(plan: Plan, areas: [Area; 8], devices: [Device; 4], area: usize) -> Job
+    requires { ⌜ (plan .«sub_area_count» ≤ 32) × (area < 8) ⌝ }
+    ensures { λ r. ⌜ r ≡ cancel (layoutOf plan) area (coreIn areas devices) .jobs area ⌝ }
+{
+    let entry = areas[area];
+    let job = entry.job;
+    if area_runs(plan, areas, devices, area) {
+        return cancelled(job);
+    }
+    ended(job, JobResult::CANCELED)
 }
