@@ -1,25 +1,30 @@
--- document 01: what a call on a manager answers and leaves. The rules (crate rules) say it of jobs and devices; here they are read in the manager's arrays and
--- written back.
-use Prim.Native.Nat.{ℕ, _≤_, _<_}
-use mathlib.Core.Bool.{Bool, false}
+-- document 01: what each call on a manager answers and leaves. The rules (crate rules) say it of jobs and devices; here they are
+-- read in the manager's arrays and written back.
+use Prim.Native.Nat.{ℕ}
+use mathlib.Core.Bool.{Bool}
 use mathlib.Core.List.{List, _∷_}
-use mathlib.Core.Path.{_≡_, ap}
-use native.Mathlib.Omega.{arith}
-use borrow.Author.Tests.{ltb-true, eq-eqb, ne-eqb}
 use lib.Dec.{eqb}
 use lib.ListN.{getD, set}
 use Rattle.arith.specs.Cases.{pick}
-use Rattle.arith.specs.FirstNo.{firstNo, none-elim}
-use Rattle.memory.specs.Numbers.{admissionNumber, refusal-some}
-use Rattle.memory.specs.declared.Admission.{Admission}
-use Rattle.memory.specs.declared.Admission.the-variants.{Refused}
-use Rattle.memory.specs.declared.Refusal.{Refusal}
-use Rattle.machine.specs.Sound.{isSound, coreIn, sound-few}
-use Rattle.rules.specs.Admission.{cancelQuestions}
+use Rattle.arith.specs.FirstNo.{firstNo}
+use Rattle.machine.specs.Sound.{isSound, coreIn}
+use Rattle.memory.specs.Numbers.{statusNumber}
+use Rattle.memory.specs.declared.DeviceAnswer.{DeviceAnswer}
+use Rattle.memory.specs.declared.JobResult.{JobResult}
+use Rattle.memory.specs.declared.LogicalAddress.{LogicalAddress}
+use Rattle.memory.specs.declared.Task.{Task}
+use Rattle.rounds.specs.Close.{waitsIn, areasAfter, devicesAfter, halvesOf}
+use Rattle.rules.specs.Admission.{rangeDevice, jobQuestions, releaseQuestions, cancelQuestions, infoQuestions, memoryInfoQuestions, roundNumber}
 use Rattle.rules.specs.Layout.{layoutOf}
-use Rattle.rules.specs.Machine.{Core, cancel}
-use Rattle.state.specs.Fresh.{freshArea}
+use Rattle.rules.specs.Machine.{Core, begin, cancel, release}
+use Rattle.rules.specs.Memory.{Memory}
+use Rattle.rules.specs.Queries.{noRequest, jobInfoOf, noMemoryInfo, memoryInfoOf}
+use Rattle.state.specs.Fresh.{freshArea, noJob, noWaits}
+use Rattle.state.specs.declared.DeviceState.{DeviceState}
 use Rattle.state.specs.declared.Job.{Job}
+use Rattle.state.specs.declared.JobInfo.{JobInfo}
+use Rattle.state.specs.declared.MemoryInfo.{MemoryInfo}
+use Rattle.state.specs.declared.Waits.{Waits}
 use Rattle.manager.specs.declared.Manager.{Manager}
 
 -- jobs and devices, as the rules see them
@@ -30,40 +35,78 @@ coreOf m = coreIn (m .areas) (m .devices)
 abbrev pub numberOf : Manager → List Bool → ℕ
 numberOf m questions = firstNo 9 (isSound (m .plan) (m .areas) (m .devices) ∷ questions)
 
--- area a's job becomes j, and its waits stay
-abbrev pub withJob : ℕ → Job → Manager → Manager
-withJob a j m =
+-- "any other refusal returns the number and the manager given", "other answer fields 0": the first where the number is 0
+abbrev pub ifAccepted : {A : Type 0} → ℕ → A → A → A
+ifAccepted n accepted refused = pick (eqb n 0) accepted refused
+
+abbrev pub withArea : ℕ → Job → Waits → Manager → Manager
+withArea a j w m =
     record {
       plan = m .plan;
-      areas = set (m .areas) a (record { job = j; waits = getD (m .areas) a freshArea .waits });
+      areas = set (m .areas) a (record { job = j; waits = w });
       devices = m .devices;
     }
+
+abbrev pub withDevice : ℕ → DeviceState → Manager → Manager
+withDevice d x m = record { plan = m .plan; areas = m .areas; devices = set (m .devices) d (record { state = x }) }
+
+-- one of the five jobs, or a lock request: "An accepted job makes its area pending and sets processed length and counts to 0"
+unfoldable pub jobNumberOf : Manager → ℕ → Task → ℕ
+jobNumberOf m a t = numberOf m (jobQuestions (m .plan) (coreOf m) a t)
+
+unfoldable pub afterJob : Manager → ℕ → Task → Manager
+afterJob m a t = ifAccepted (jobNumberOf m a t) (withArea a (begin (layoutOf (m .plan)) a t (coreOf m) .jobs a) noWaits m) m
+
+-- a release: "Release clears the lock."
+unfoldable pub releaseNumberOf : Manager → ℕ → LogicalAddress → ℕ → ℕ
+releaseNumberOf m a address n = numberOf m (releaseQuestions (m .plan) (coreOf m) a address n)
+
+unfoldable pub afterRelease : Manager → ℕ → LogicalAddress → ℕ → Manager
+afterRelease m a address n =
+    let d = rangeDevice (m .plan) a address n in
+    ifAccepted (releaseNumberOf m a address n) (withDevice d (release d (coreOf m) .devices d) m) m
 
 -- a cancel
 unfoldable pub cancelNumberOf : Manager → ℕ → ℕ
 cancelNumberOf m a = numberOf m (cancelQuestions (m .plan) (coreOf m) a)
 
--- "any other refusal returns the number and the manager given"
 unfoldable pub afterCancel : Manager → ℕ → Manager
-afterCancel m a = pick (eqb (cancelNumberOf m a) 0) (withJob a (cancel (layoutOf (m .plan)) a (coreOf m) .jobs a) m) m
+afterCancel m a = ifAccepted (cancelNumberOf m a) (withArea a (cancel (layoutOf (m .plan)) a (coreOf m) .jobs a) (waitsIn (m .areas) a) m) m
 
--- a call that is refused, with that number
-pub refused-some : (x : Admission) (q : Refusal) → x ≡ Refused q → (n : ℕ) → admissionNumber x ≡ n → eqb n 0 ≡ false
-refused-some x q e n f = ne-eqb n 0 (λ z. omega (arith, refusal-some q, ap admissionNumber e, f, z))
+-- queries: they leave the manager as it is
+unfoldable pub infoNumberOf : Manager → ℕ → ℕ
+infoNumberOf m a = numberOf m (infoQuestions (m .plan) a)
 
-module _ (m : Manager) (a : ℕ) where
-  -- an accepted cancel is of an area and a plan that the arrays hold
-  pub cancel-few : cancelNumberOf m a ≡ 0 → (m .plan .«sub_area_count» ≤ 32) × (a < 8)
-  unfolding cancelNumberOf cancelQuestions
-  cancel-few e =
-      let yes = none-elim 9 _ (omega arith) e in
-      let few = sound-few (m .plan) (m .areas) (m .devices) (yes 0 (omega arith)) in
-      (few .1, omega (arith, few .0, ltb-true a (m .plan .«area_count») (yes 1 (omega arith))))
+unfoldable pub statusOf : Manager → ℕ → ℕ
+statusOf m a = ifAccepted (infoNumberOf m a) (statusNumber (coreOf m .jobs a .status)) 0
 
-  pub cancel-refused : eqb (cancelNumberOf m a) 0 ≡ false → m ≡ afterCancel m a
-  unfolding afterCancel
-  cancel-refused e = rw e
+unfoldable pub resultOf : Manager → ℕ → JobResult
+resultOf m a = ifAccepted (infoNumberOf m a) (coreOf m .jobs a .result) (record { 0 = 0 })
 
-  pub cancel-accepted : cancelNumberOf m a ≡ 0 → withJob a (cancel (layoutOf (m .plan)) a (coreOf m) .jobs a) m ≡ afterCancel m a
-  unfolding afterCancel
-  cancel-accepted e = rw (eq-eqb (cancelNumberOf m a) 0 e)
+unfoldable pub processedOf : Manager → ℕ → ℕ
+processedOf m a = ifAccepted (infoNumberOf m a) (coreOf m .jobs a .processed) 0
+
+abbrev pub noJobInfo : JobInfo
+noJobInfo = record { task = noJob .task; result = record { 0 = 0 }; processed = 0; waits = noWaits; request = noRequest }
+
+unfoldable pub infoOf : Manager → ℕ → JobInfo
+infoOf m a = ifAccepted (infoNumberOf m a) (jobInfoOf (m .plan) (coreOf m) (waitsIn (m .areas) a) a) noJobInfo
+
+unfoldable pub memoryInfoNumberOf : Manager → ℕ → LogicalAddress → ℕ
+memoryInfoNumberOf m a address = numberOf m (memoryInfoQuestions (m .plan) a address)
+
+unfoldable pub memoryOfArea : Manager → ℕ → LogicalAddress → MemoryInfo
+memoryOfArea m a address = ifAccepted (memoryInfoNumberOf m a address) (memoryInfoOf (m .plan) a address) noMemoryInfo
+
+-- a round: "(round; after 9)", 18 and 19
+unfoldable pub roundNumberOf : Manager → Memory → ℕ
+roundNumberOf m lent = pick (isSound (m .plan) (m .areas) (m .devices)) (roundNumber (m .plan) (lent .image) (lent .store)) 9
+
+unfoldable pub afterRound : Manager → List DeviceAnswer → Memory → Manager
+afterRound m answers lent =
+    let after = halvesOf (m .plan) (m .areas) (m .devices) answers lent .core in
+    ifAccepted (roundNumberOf m lent) (record { plan = m .plan; areas = areasAfter (m .plan) (m .areas) after; devices = devicesAfter after }) m
+
+-- "lent memory untouched" where it is refused
+unfoldable pub memoryAfterRound : Manager → List DeviceAnswer → Memory → Memory
+memoryAfterRound m answers lent = ifAccepted (roundNumberOf m lent) (halvesOf (m .plan) (m .areas) (m .devices) answers lent .memory) lent

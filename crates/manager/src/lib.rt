@@ -3,7 +3,8 @@ ghost use mathlib.Core.Path.{_≡_};
 ghost use Rattle.memory.specs.Numbers.{admissionNumber};
 ghost use Rattle.plan.specs.Questions.{loadNumber};
 ghost use Prim.Native.Nat.{_<_};
-ghost use Rattle.manager.specs.Calls.{withJob, cancelNumberOf, afterCancel};
+ghost use Rattle.manager.specs.Calls.{withArea, cancelNumberOf, afterCancel};
+ghost use Rattle.rounds.specs.Close.{waitsIn};
 ghost use Rattle.manager.specs.Load.{freshManager, loadedManager};
 use machine::devices::cancelled_job;
 use machine::questions::cancel_admission;
@@ -59,7 +60,7 @@ impl Manager {
 
     fn with_job(self, area: usize, job: Job) -> Manager
         requires { ⌜ area < 8 ⌝ }
-        ensures { λ r. ⌜ r ≡ withJob area job self ⌝ }
+        ensures { λ r. ⌜ r ≡ withArea area job (waitsIn (self .areas) area) self ⌝ }
     {
         let plan = self.plan;
         let devices = self.devices;

@@ -1,6 +1,8 @@
 use mathlib.Core.Path.{sym, ap, _∙_}
 use Rattle.memory.specs.Numbers.{admissionNumber}
-use Rattle.manager.specs.Calls.{withJob, cancelNumberOf, refused-some, cancel-few, cancel-refused, cancel-accepted}
+use Rattle.rounds.specs.Close.{waitsIn}
+use Rattle.manager.specs.Calls.{withArea, cancelNumberOf}
+use Rattle.manager.specs.CallLaws.{refused-some, cancel-few, cancel-refused, cancel-accepted}
 use borrow.Author.Needs.{needs}
 use Rattle.manager.proofs.Manager.cancel.Statement.{statement}
 use Rattle.manager.proofs.Manager.cancel.Tie as tie
@@ -40,7 +42,7 @@ returns c = (c .before .before .cancel-admission .ensures, cancel-refused (c .be
 -- src/lib.rt:77:5
 returns-2 : tie.Need-returns-2
 unfolding cancelNumberOf
-returns-2 c = (c .before .before .before .before .cancel-admission .ensures, c .with-job .ensures ∙ ap (λ j. withJob (c .before .before .before .before .before .before .before .before .args .area) j (c .before .before .before .before .before .before .before .before .args .self)) (c .before .cancelled-job .ensures) ∙ cancel-accepted (c .before .before .before .before .before .before .before .before .args .self) (c .before .before .before .before .before .before .before .before .args .area) (sym (c .before .before .before .before .cancel-admission .ensures) ∙ ap admissionNumber (c .before .before .enum-told2 .given .1)))
+returns-2 c = (c .before .before .before .before .cancel-admission .ensures, c .with-job .ensures ∙ ap (λ j. withArea (c .before .before .before .before .before .before .before .before .args .area) j (waitsIn (c .before .before .before .before .before .before .before .before .args .self .areas) (c .before .before .before .before .before .before .before .before .args .area)) (c .before .before .before .before .before .before .before .before .args .self)) (c .before .cancelled-job .ensures) ∙ cancel-accepted (c .before .before .before .before .before .before .before .before .args .self) (c .before .before .before .before .before .before .before .before .args .area) (sym (c .before .before .before .before .cancel-admission .ensures) ∙ ap admissionNumber (c .before .before .enum-told2 .given .1)))
 
 pub cancel-spec : {M : Type 1} → statement M
 cancel-spec =
