@@ -1,5 +1,5 @@
 -- What an answer does, as the code says it.
-use Prim.Native.Nat.{ℕ, _≤_}
+use Prim.Native.Nat.{ℕ, _+_, _≤_}
 use mathlib.Core.List.{List}
 use native.Mathlib.Omega.{arith}
 use Rattle.memory.specs.declared.JobType.{JobType}
@@ -18,21 +18,21 @@ verdict Outcomes.Failed = failed
 abbrev pub memoryOf : List ℕ → List ℕ → Memory
 memoryOf image store = record { image = image; store = store }
 
--- how many bytes of its window a driver gets for a request of n bytes
-abbrev pub lentBytes : JobType → ℕ → ℕ
-lentBytes Write n = n
-lentBytes Read n = n
-lentBytes Compare n = n
-lentBytes Erase n = 0
-lentBytes BlankCheck n = 0
-lentBytes Lock n = 0
-lentBytes NoJob n = 0
+-- the end, in the store, of what a driver gets for a request of n bytes at w; 0 where it gets nothing
+abbrev pub lentEnd : JobType → ℕ → ℕ → ℕ
+lentEnd Write w n = w + n
+lentEnd Read w n = w + n
+lentEnd Compare w n = w + n
+lentEnd Erase w n = 0
+lentEnd BlankCheck w n = 0
+lentEnd Lock w n = 0
+lentEnd NoJob w n = 0
 
-pub lent-less : (k : JobType) (i n : ℕ) → i ≤ n → lentBytes k i ≤ lentBytes k n
-lent-less Write i n h = h
-lent-less Read i n h = h
-lent-less Compare i n h = h
-lent-less Erase i n h = omega arith
-lent-less BlankCheck i n h = omega arith
-lent-less Lock i n h = omega arith
-lent-less NoJob i n h = omega arith
+pub lent-less : (k : JobType) (w i n : ℕ) → i ≤ n → lentEnd k w i ≤ lentEnd k w n
+lent-less Write w i n h = omega arith
+lent-less Read w i n h = omega arith
+lent-less Compare w i n h = omega arith
+lent-less Erase w i n h = omega arith
+lent-less BlankCheck w i n h = omega arith
+lent-less Lock w i n h = omega arith
+lent-less NoJob w i n h = omega arith

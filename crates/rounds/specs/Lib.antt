@@ -1,2 +1,3 @@
 pub mod Close
 pub mod Effects
+pub mod Requests

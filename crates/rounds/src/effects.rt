@@ -3,7 +3,7 @@ ghost use mathlib.Core.Path.{_≡_};
 ghost use Prim.Native.Nat.{_+_, _≤_, min};
 ghost use lib.ListN.{length};
 ghost use Rattle.rules.specs.Memory.{Memory, imageAfter, storeAfter, agrees, verdictOf, memoryAfter};
-ghost use Rattle.rounds.specs.Effects.{verdict, lentBytes, memoryOf};
+ghost use Rattle.rounds.specs.Effects.{verdict, lentEnd, memoryOf};
 use memory::DeviceAnswer;
 use memory::JobType;
 use transfer::blank_part;
@@ -29,7 +29,7 @@ fn finish(
     image: &mut [u8],
     store: &mut [u8],
 ) -> bool
-    requires { ⌜ (at + n ≤ length (now image)) × (window + lentBytes kind n ≤ length (now store)) ⌝ }
+    requires { ⌜ (at + n ≤ length (now image)) × (lentEnd kind window n ≤ length (now store)) ⌝ }
     ensures { λ r. ⌜ r ≡ agrees kind at window n (memoryOf (now (image .entry)) (now (store .entry))) ⌝ }
     ensures { λ _. ⌜ now (image .exit) ≡ imageAfter kind at window n (memoryOf (now (image .entry)) (now (store .entry))) ⌝ }
     ensures { λ _. ⌜ now (store .exit) ≡ storeAfter kind at window n (memoryOf (now (image .entry)) (now (store .entry))) ⌝ }
@@ -56,7 +56,7 @@ fn finish(
 
 // A request that failed has acted on its first n bytes.
 fn act_on_first(kind: JobType, at: usize, window: usize, n: usize, image: &mut [u8], store: &[u8])
-    requires { ⌜ (at + n ≤ length (now image)) × (window + lentBytes kind n ≤ length (now store)) ⌝ }
+    requires { ⌜ (at + n ≤ length (now image)) × (lentEnd kind window n ≤ length (now store)) ⌝ }
     ensures { λ _. ⌜ now (image .exit) ≡ imageAfter kind at window n (memoryOf (now (image .entry)) (now (store .entry))) ⌝ }
 {
     match kind {
@@ -89,7 +89,7 @@ pub fn take_effect(
     image: &mut [u8],
     store: &mut [u8],
 ) -> Outcome
-    requires { ⌜ (at + n ≤ length (now image)) × (window + lentBytes kind n ≤ length (now store)) ⌝ }
+    requires { ⌜ (at + n ≤ length (now image)) × (lentEnd kind window n ≤ length (now store)) ⌝ }
     ensures { λ r. ⌜ verdict r ≡ verdictOf answer kind at window n (memoryOf (now (image .entry)) (now (store .entry))) ⌝ }
     ensures { λ _. ⌜ now (image .exit) ≡ memoryAfter answer kind at window n (memoryOf (now (image .entry)) (now (store .entry))) .image ⌝ }
     ensures { λ _. ⌜ now (store .exit) ≡ memoryAfter answer kind at window n (memoryOf (now (image .entry)) (now (store .entry))) .store ⌝ }

@@ -1,3 +1,4 @@
+use native.Mathlib.Nat.{le-trans}
 use Prim.Native.Nat.{_≤_}
 use Rattle.rounds.specs.Effects.{lent-less}
 use native.Mathlib.Omega.{arith}
@@ -44,10 +45,10 @@ least-requires c κs = search needs
 
 -- src/effects.rt:114:13
 act-on-first-requires : tie.Need-act-on-first-requires
-act-on-first-requires c κs = 
+act-on-first-requires c κs =
     let e = c .before .before .least .ensures in
     let l : c .before .before .least .result ≤ c .before .before .before .before .before .before .before .before .args .n = omega (arith, e) in
-    (omega (arith, c .before .before .before .before .before .before .before .before .pre .0, l), omega (arith, c .before .before .before .before .before .before .before .before .pre .1, lent-less (c .before .before .before .before .before .before .before .before .args .kind) _ _ l))
+    (omega (arith, c .before .before .before .before .before .before .before .before .pre .0, l), le-trans (lent-less (c .before .before .before .before .before .before .before .before .args .kind) (c .before .before .before .before .before .before .before .before .args .window) (c .before .before .least .result) (c .before .before .before .before .before .before .before .before .args .n) l) (c .before .before .before .before .before .before .before .before .pre .1))
 
 -- src/effects.rt:90:1
 returns-2 : tie.Need-returns-2
