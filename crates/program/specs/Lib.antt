@@ -1,1 +1,5 @@
 pub mod Run
+pub mod Stands
+pub mod Statements
+pub mod Arrays
+pub mod Halves
