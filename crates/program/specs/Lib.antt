@@ -3,3 +3,7 @@ pub mod Stands
 pub mod Statements
 pub mod Arrays
 pub mod Halves
+pub mod Answers
+pub mod KeptCalls
+pub mod KeptRound
+pub mod Kept
