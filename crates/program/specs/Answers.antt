@@ -1,6 +1,5 @@
 -- A manager in a reachable state passes the soundness test, so that it answers and does with lent memory what the rules say.
-use Prim.Native.Nat.{ℕ}
-use mathlib.Core.Bool.{Bool, true}
+use mathlib.Core.Bool.{Bool, true, false}
 use mathlib.Core.List.{List}
 use mathlib.Core.Path.{_≡_, sym, ap}
 use lib.Dec.{eqb}
@@ -26,6 +25,24 @@ use Rattle.rules.specs.Round.{roundHalves}
 use Rattle.rules.specs.Session.{memoryOf}
 use Rattle.program.specs.Halves.{both, round-bare}
 use Rattle.program.specs.Run.{queryAnswer, answerOf, memoryAfter}
+
+-- a manager that does not pass answers 9 to every call
+module _ (m : Manager) (e : isSound (m .plan) (m .areas) (m .devices) ≡ false) where
+  unsound-query : (q : Query) → queryAnswer q m ≡ 9
+  unfolding infoNumberOf memoryInfoNumberOf firstNo
+  unsound-query (status a) = rw e
+  unsound-query (result a) = rw e
+  unsound-query (processed a) = rw e
+  unsound-query (jobInfo a) = rw e
+  unsound-query (memoryInfo a address) = rw e
+
+  pub unsound-answer : (k : Call) → answerOf k m ≡ 9
+  unfolding jobNumberOf releaseNumberOf cancelNumberOf roundNumberOf firstNo
+  unsound-answer (submit a t) = rw e
+  unsound-answer (releases a address n) = rw e
+  unsound-answer (cancels a) = rw e
+  unsound-answer (asks q) = unsound-query q
+  unsound-answer (round answers given) = rw e
 
 -- what holds of the jobs and devices of every history of an accepted load
 pub record Reached (p : Plan) (c : Core) : Type 0 where

@@ -1,13 +1,13 @@
 -- The manager's arrays as the maps that the rules see.
 use Prim.Native.Nat.{ℕ, _≤_, _<_}
 use mathlib.Core.List.{List}
-use mathlib.Core.Path.{_≡_, refl, sym, ap, _∙_, fun-ext}
+use mathlib.Core.Path.{_≡_, sym, ap, _∙_, fun-ext}
 use lib.ListN.{length, getD, set, List·getD-eq-default}
 use lib.Seq.{getD-set-same, getD-set-other}
 use native.Mathlib.Omega.{arith}
 use Rattle.arith.specs.Cases.{by-ltb}
 use Rattle.arith.specs.Parts.{upd, upd-same, upd-other, same-or}
-use Rattle.arith.specs.Tables.{table, length-table, table-at}
+use Rattle.arith.specs.Tables.{length-table, table-at}
 use Rattle.machine.specs.Sound.{jobIn, stateIn, coreIn}
 use Rattle.plan.specs.declared.records.Plan.{Plan}
 use Rattle.rounds.specs.Close.{closed, waitsIn, areaAfter, areasAfter, deviceAfter, devicesAfter}

@@ -1,6 +1,6 @@
 -- What a round's halves leave alone, and that they do not look at the list of requests done.
 use Prim.Native.Nat.{ℕ, zero, suc, _≤_}
-use mathlib.Core.Bool.{true, false, true≢false}
+use mathlib.Core.Bool.{false, true≢false}
 use mathlib.Core.List.{List, []}
 use mathlib.Core.Path.{_≡_, refl, sym, ap, _∙_}
 use native.Mathlib.Nat.{le-refl}
@@ -17,9 +17,6 @@ use Rattle.rules.specs.Reachable.{Reachable}
 use Rattle.rules.specs.Requests.{running-on}
 use Rattle.rules.specs.Round.{Half, answerOf, takeIn, takeAll, roundHalves}
 use Rattle.rules.specs.StepLaws.{take-case, untouched, start-case}
-use Rattle.segment.specs.declared.Segment.{Segment}
-use Rattle.state.specs.declared.DeviceState.{DeviceState}
-use Rattle.state.specs.declared.Job.{Job}
 
 -- core and memory of a half
 abbrev pub both : Half → Core × Memory

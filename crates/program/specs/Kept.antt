@@ -1,11 +1,11 @@
 -- Every call, accepted or refused, keeps the manager where the history is, and so does every list of calls from an accepted load.
-use Prim.Native.Nat.{ℕ, _≤_, _<_}
+use Prim.Native.Nat.{ℕ, _<_}
 use mathlib.Core.List.{List, [], _∷_}
-use mathlib.Core.Path.{_≡_, refl, sym, ap, subst₂, _∙_}
+use mathlib.Core.Path.{_≡_, refl, sym, ap, subst₂}
 use native.Mathlib.Omega.{arith}
 use borrow.Author.Tests.{ltb-true}
 use lib.Dec.{eqb}
-use lib.ListN.{length, getD, replicate, length-replicate, getD-replicate, List·getD-eq-default}
+use lib.ListN.{getD, replicate, length-replicate, getD-replicate, List·getD-eq-default}
 use Rattle.arith.specs.Cases.{pick, by-ltb, by-eqb}
 use Rattle.arith.specs.FirstNo.{none-elim}
 use Rattle.manager.specs.Calls.{coreOf, afterJob, afterRelease, afterCancel, afterRound}
@@ -42,7 +42,7 @@ cancel-known p c a e = ltb-true _ _ (none-elim 10 (cancelQuestions p c a) (omega
 
 module _ (m : Manager) (h : History) (S : Stands (m .plan) m (withCore (coreOf m) h)) (r : Reached (m .plan) (coreOf m)) where
   -- every call, where the history's plan and core are the manager's
-  call-kept : (k : Call) → Stands (m .plan) (after k m) (step (m .plan) k (withCore (coreOf m) h))
+  pub call-kept : (k : Call) → Stands (m .plan) (after k m) (step (m .plan) k (withCore (coreOf m) h))
   unfolding step afterJob afterRelease afterCancel afterRound
   call-kept (submit a t) =
       both-accept (Stands (m .plan)) _ _ (answer-is m r (submit a t) h)

@@ -1,24 +1,21 @@
 -- Accepted jobs, releases and cancels keep the manager where the history is.
-use Prim.Native.Nat.{ℕ, _≤_, _<_}
+use Prim.Native.Nat.{ℕ, _<_}
 use mathlib.Core.Bool.{Bool, true, false}
 use mathlib.Core.Path.{_≡_, refl, sym, ap, subst, _∙_}
 use native.Mathlib.Omega.{arith}
-use lib.ListN.{length, length-set}
+use lib.ListN.{length-set}
 use Rattle.arith.specs.Cases.{by-ltb}
 use Rattle.arith.specs.Parts.{upd, upd-same, upd-other, upd-case, same-or}
 use Rattle.manager.specs.Calls.{coreOf, withArea, withDevice}
 use Rattle.manager.specs.declared.Manager.{Manager}
-use Rattle.memory.specs.declared.LogicalAddress.{LogicalAddress}
 use Rattle.memory.specs.declared.Task.{Task}
-use Rattle.plan.specs.declared.records.Plan.{Plan}
 use Rattle.rounds.specs.Close.{waitsIn}
-use Rattle.rules.specs.History.{Tally, noTally, History, withCore, submitted}
+use Rattle.rules.specs.History.{noTally, History, withCore, submitted}
 use Rattle.rules.specs.Layout.{Layout, layoutOf}
 use Rattle.rules.specs.Machine as Machine
 use Rattle.rules.specs.Machine.{Core, withJob, isOwn, waitOf, begun, begin, cancelIf, cancel, release}
 use Rattle.rules.specs.SecondHalf.{Busy}
 use Rattle.state.specs.Fresh.{noWaits, freshArea}
-use Rattle.state.specs.declared.Area.{Area}
 use Rattle.state.specs.declared.DeviceState.{DeviceState}
 use Rattle.state.specs.declared.DeviceState.the-variants.{Free, LockedFor}
 use Rattle.state.specs.declared.Job.{Job}

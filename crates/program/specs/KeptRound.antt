@@ -1,22 +1,20 @@
 -- An accepted round keeps the manager where the history is.
-use Prim.Native.Nat.{ℕ, _+_, _≤_, _<_, min}
+use Prim.Native.Nat.{ℕ, _+_, _≤_, min}
 use mathlib.Core.Bool.{Bool, true, false}
 use mathlib.Core.List.{List}
-use mathlib.Core.Path.{_≡_, refl, sym, ap, _∙_}
+use mathlib.Core.Path.{_≡_, refl, ap, _∙_}
 use native.Mathlib.Omega.{arith}
 use Rattle.manager.specs.Calls.{coreOf}
 use Rattle.manager.specs.declared.Manager.{Manager}
 use Rattle.memory.specs.declared.DeviceAnswer.{DeviceAnswer}
-use Rattle.plan.specs.declared.records.Plan.{Plan}
 use Rattle.rounds.specs.Close.{mostWaits, stick, counted, closed, areasAfter, devicesAfter, halvesOf}
 use Rattle.rules.specs.History.{Tally, count, close, History, withCore, lent, roundOf}
 use Rattle.rules.specs.Layout.{layoutOf}
-use Rattle.rules.specs.Machine.{Core, Wait, own, above, below, locked, none, isPending, waitOf}
+use Rattle.rules.specs.Machine.{Wait, own, above, below, locked, none, isPending, waitOf}
 use Rattle.rules.specs.Memory.{Memory}
 use Rattle.rules.specs.Round.{Half, roundHalves}
 use Rattle.state.specs.Fresh.{noJob}
 use Rattle.state.specs.declared.DeviceState.the-variants.{Free}
-use Rattle.state.specs.declared.Waits.{Waits}
 use Rattle.program.specs.Answers.{Reached, halves-are}
 use Rattle.program.specs.Arrays.{job-past, state-past, areas-after-length, devices-after-length, waits-after, core-after}
 use Rattle.program.specs.Halves.{round-leaves-job, round-leaves-device}

@@ -7,3 +7,7 @@ pub mod Answers
 pub mod KeptCalls
 pub mod KeptRound
 pub mod Kept
+pub mod Demand1
+pub mod Demand2
+pub mod Demand3
+pub mod Program
