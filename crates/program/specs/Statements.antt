@@ -34,12 +34,20 @@ use Rattle.state.specs.declared.DeviceState.the-variants.{Runs}
 use Rattle.program.specs.Run.{answerOf, after, memoryAfter, runOf}
 use Rattle.program.specs.Stands.{stuck, Stands}
 
+-- the history's numbers and done requests, beside the jobs and devices of the manager itself
+abbrev pub beside : Manager → History → History
+beside m h = withCore (coreOf m) h
+
 -- "The lent memory, which is the chip image and the job store, changes only in a round, and only inside requests that the round finishes
 -- and the rules of document 01 let change it. Every input gets an answer; a refused call leaves image, store and manager as they were."
+-- To a round the memory is lent that the call names.
 pub record Demand1 (p : Plan) (m : Manager) : Type 0 where
+  -- "changes only in a round"
   pub other-calls : (k : Call) (lent : Memory) → isRound k ≡ false → memoryAfter k m lent ≡ lent
+  -- an accepted round
   pub rounds : (answers : List DeviceAnswer) (lent : Memory) → let k = round answers lent in answerOf k m ≡ 0 →
       Rules.RoundChanges p (coreOf m) answers lent (memoryAfter k m lent)
+  -- "a refused call leaves image, store and manager as they were"
   pub refused : (k : Call) → answerOf k m ≢ 0 → after k m ≡ m
   pub refused-round : (answers : List DeviceAnswer) (lent : Memory) → let k = round answers lent in answerOf k m ≢ 0 → memoryAfter k m lent ≡ lent
 
@@ -80,12 +88,12 @@ pub record Demand2 (p : Plan) (m : Manager) (h : History) (a : ℕ) : Type 0 whe
       × (isOwn (waitOf (layoutOf p) (coreOf m) a) ≡ true → (isPending j ≡ true) × (isCancelling (j .status) ≡ true))
   -- a job that a call ends has its result by the rules, and there are no others
   pub result-so : (k : Call) → let e = coreOf (after k m) in isPending (coreOf m .jobs a) ≡ true → isPending (e .jobs a) ≡ false →
-      Ends p (withCore (coreOf m) h) e a k (e .jobs a .result .0) × (e .jobs a .result .0 ≤ 3)
+      Ends p (beside m h) e a k (e .jobs a .result .0) × (e .jobs a .result .0 ≤ 3)
 
 -- Area a's latest job: the history's numbers, "without a limit", and what is reported of them.
 pub record Demand3 (p : Plan) (m : Manager) (h : History) (a : ℕ) : Type 0 where
   -- "rounds = own + above + below + locked, and one more if a round ended it", and the bounds on own and below
-  pub numbers : Rules.Demand3 p (withCore (coreOf m) h) a
+  pub numbers : Rules.Demand3 p (beside m h) a
   -- "All four are reported, each as the wait book of document 01 has it, or as 4,294,967,295 if that is smaller." "The reported counts are
   -- those in job info."
   pub reported : a < p .«area_count» → (answerOf (asks (jobInfo a)) m ≡ 0) × (infoOf m a .waits ≡ stuck (h .tallies a))
