@@ -23,22 +23,22 @@ use Rattle.state.specs.declared.Waits.{Waits}
 use Rattle.program.specs.Arrays.{view-set, job-set, state-set, state-past}
 use Rattle.program.specs.Stands.{stuck, Stands}
 
--- one job more, or one that is cancelled: the core is the one with that area's job changed
-begin-job : (p : Layout) (a : ℕ) (t : Task) (c : Core) → withJob a (begin p a t c .jobs a) c ≡ begin p a t c
+-- A job, a cancel or a release changes one entry of the core: with what it makes of that entry, the rest as it was, it is the whole core.
+begun-core : (p : Layout) (a : ℕ) (t : Task) (c : Core) → withJob a (begin p a t c .jobs a) c ≡ begin p a t c
 unfolding begin
-begin-job p a t c = ap (λ j. withJob a j c) (upd-same (c .jobs) a (begun p a t (c .jobs a)))
+begun-core p a t c = ap (λ j. withJob a j c) (upd-same (c .jobs) a (begun p a t (c .jobs a)))
 
-cancel-job : (p : Layout) (a : ℕ) (c : Core) → withJob a (cancel p a c .jobs a) c ≡ cancel p a c
+cancelled-core : (p : Layout) (a : ℕ) (c : Core) → withJob a (cancel p a c .jobs a) c ≡ cancel p a c
 unfolding cancel
-cancel-job p a c = go (isOwn (waitOf p c a))
+cancelled-core p a c = go (isOwn (waitOf p c a))
   where
     go : (t : Bool) → withJob a (cancelIf t a c .jobs a) c ≡ cancelIf t a c
     go true = ap (λ j. withJob a j c) (upd-same (c .jobs) a _)
     go false = ap (λ j. withJob a j c) (upd-same (c .jobs) a _)
 
-release-state : (d : ℕ) (c : Core) → Machine.withDevice d (release d c .devices d) c ≡ release d c
+released-core : (d : ℕ) (c : Core) → Machine.withDevice d (release d c .devices d) c ≡ release d c
 unfolding release
-release-state d c = ap (λ x. Machine.withDevice d x c) (upd-same (c .devices) d Free)
+released-core d c = ap (λ x. Machine.withDevice d x c) (upd-same (c .devices) d Free)
 
 module _ (m : Manager) (h : History) (S : Stands (m .plan) m (withCore (coreOf m) h)) where
   -- area a gets job j and waits w
@@ -66,7 +66,7 @@ module _ (m : Manager) (h : History) (S : Stands (m .plan) m (withCore (coreOf m
         plan = refl;
         areas-length = rw length-set (S .areas-length);
         devices-length = S .devices-length;
-        core = area-core a _ noWaits l ∙ begin-job (layoutOf (m .plan)) a t (coreOf m);
+        core = area-core a _ noWaits l ∙ begun-core (layoutOf (m .plan)) a t (coreOf m);
         waits = λ b g.
             area-waits a _ noWaits l b
             ∙ same-or (λ b. b < 8 → upd (waitsIn (m .areas)) a noWaits b ≡ stuck (upd (h .tallies) a noTally b)) a b
@@ -83,7 +83,7 @@ module _ (m : Manager) (h : History) (S : Stands (m .plan) m (withCore (coreOf m
         plan = refl;
         areas-length = rw length-set (S .areas-length);
         devices-length = S .devices-length;
-        core = area-core a _ (waitsIn (m .areas) a) l ∙ cancel-job (layoutOf (m .plan)) a (coreOf m);
+        core = area-core a _ (waitsIn (m .areas) a) l ∙ cancelled-core (layoutOf (m .plan)) a (coreOf m);
         waits = λ b g.
             area-waits a _ (waitsIn (m .areas) a) l b
             ∙ upd-case (λ w. w ≡ stuck (h .tallies b)) (waitsIn (m .areas)) a b (waitsIn (m .areas) a)
@@ -105,6 +105,6 @@ module _ (m : Manager) (h : History) (S : Stands (m .plan) m (withCore (coreOf m
         plan = refl;
         areas-length = S .areas-length;
         devices-length = rw length-set (S .devices-length);
-        core = device-core d _ (locked-known d a e) ∙ release-state d (coreOf m);
+        core = device-core d _ (locked-known d a e) ∙ released-core d (coreOf m);
         waits = S .waits;
       }
