@@ -1,0 +1,93 @@
+-- A manager in a reachable state passes the soundness test, so that it answers and does with lent memory what the rules say.
+use mathlib.Core.Bool.{Bool, true, false}
+use mathlib.Core.List.{List}
+use mathlib.Core.Path.{_≡_, sym, ap}
+use lib.Dec.{eqb}
+use Rattle.arith.specs.Cases.{pick}
+use Rattle.arith.specs.FirstNo.{firstNo}
+use Rattle.machine.specs.Sound.{isSound}
+use Rattle.machine.specs.SoundLaws.{reached-sound}
+use Rattle.manager.specs.Calls.{coreOf, numberOf, jobNumberOf, releaseNumberOf, cancelNumberOf, infoNumberOf, memoryInfoNumberOf, roundNumberOf, memoryAfterRound}
+use Rattle.manager.specs.declared.Manager.{Manager}
+use Rattle.memory.specs.declared.DeviceAnswer.{DeviceAnswer}
+use Rattle.plan.specs.WellFormed.{WellFormed}
+use Rattle.plan.specs.declared.records.Plan.{Plan}
+use Rattle.rounds.specs.Close.{halvesOf}
+use Rattle.rules.specs.Admission.{admits, jobNumber, releaseNumber, cancelNumber, infoNumber, memoryInfoNumber, roundNumber}
+use Rattle.rules.specs.History.{Query, status, result, processed, jobInfo, memoryInfo, Call, submit, releases, cancels, asks, round, History, withCore, lent}
+use Rattle.rules.specs.Layout.{layoutOf}
+use Rattle.rules.specs.Machine.{Core}
+use Rattle.rules.specs.Memory.{Memory}
+use Rattle.rules.specs.Reach.{queryNumber, callNumber}
+use Rattle.rules.specs.Reachable.{Reachable}
+use Rattle.rules.specs.Requests.{AtCuts}
+use Rattle.rules.specs.Round.{roundHalves}
+use Rattle.rules.specs.Session.{memoryOf}
+use Rattle.program.specs.Halves.{both, round-bare}
+use Rattle.program.specs.Run.{queryAnswer, answerOf, memoryAfter}
+
+-- a manager that does not pass answers 9 to every call
+module _ (m : Manager) (e : isSound (m .plan) (m .areas) (m .devices) ≡ false) where
+  unsound-query : (q : Query) → queryAnswer q m ≡ 9
+  unfolding infoNumberOf memoryInfoNumberOf firstNo
+  unsound-query (status a) = rw e
+  unsound-query (result a) = rw e
+  unsound-query (processed a) = rw e
+  unsound-query (jobInfo a) = rw e
+  unsound-query (memoryInfo a address) = rw e
+
+  pub unsound-answer : (k : Call) → answerOf k m ≡ 9
+  unfolding jobNumberOf releaseNumberOf cancelNumberOf roundNumberOf firstNo
+  unsound-answer (submit a t) = rw e
+  unsound-answer (releases a address n) = rw e
+  unsound-answer (cancels a) = rw e
+  unsound-answer (asks q) = unsound-query q
+  unsound-answer (round answers given) = rw e
+
+-- what holds of the jobs and devices of every history of an accepted load
+pub record Reached (p : Plan) (c : Core) : Type 0 where
+  pub well : WellFormed p
+  pub reachable : Reachable (layoutOf p) (admits p) c
+  pub cuts : AtCuts p c
+
+-- the halves of a round are the history's
+pub halves-are : (m : Manager) (answers : List DeviceAnswer) (given : Memory) (h : History) →
+    both (halvesOf (m .plan) (m .areas) (m .devices) answers given) ≡ both (roundHalves (m .plan) answers (lent given (withCore (coreOf m) h)))
+unfolding halvesOf
+halves-are m answers given h = sym (round-bare (m .plan) answers (lent given (withCore (coreOf m) h)))
+
+module _ (m : Manager) (r : Reached (m .plan) (coreOf m)) where
+  pub sound : isSound (m .plan) (m .areas) (m .devices) ≡ true
+  sound = reached-sound (m .plan) (r .well) (m .areas) (m .devices) (r .reachable) (r .cuts)
+
+  -- question 9 refuses nothing
+  number-is : (questions : List Bool) → numberOf m questions ≡ firstNo 10 questions
+  unfolding firstNo
+  number-is questions = rw sound
+
+  query-is : (q : Query) → queryAnswer q m ≡ queryNumber (m .plan) q
+  unfolding infoNumberOf infoNumber memoryInfoNumberOf memoryInfoNumber
+  query-is (status a) = number-is _
+  query-is (result a) = number-is _
+  query-is (processed a) = number-is _
+  query-is (jobInfo a) = number-is _
+  query-is (memoryInfo a address) = number-is _
+
+  pub round-is : (given : Memory) → roundNumberOf m given ≡ roundNumber (m .plan) (given .image) (given .store)
+  unfolding roundNumberOf
+  round-is given = rw sound
+
+  -- every call's number
+  pub answer-is : (k : Call) (h : History) → answerOf k m ≡ callNumber (m .plan) k (withCore (coreOf m) h)
+  unfolding jobNumberOf jobNumber releaseNumberOf releaseNumber cancelNumberOf cancelNumber
+  answer-is (submit a t) h = number-is _
+  answer-is (releases a address n) h = number-is _
+  answer-is (cancels a) h = number-is _
+  answer-is (asks q) h = query-is q
+  answer-is (round answers given) h = round-is given
+
+  -- the lent memory after a round
+  pub memory-is : (answers : List DeviceAnswer) (given : Memory) (h : History) → let k = round answers given in
+      memoryAfter k m given ≡ memoryOf (m .plan) k (withCore (coreOf m) h) given
+  unfolding memoryAfterRound
+  memory-is answers given h = rw (round-is given) (ap (λ x. pick (eqb (roundNumber (m .plan) (given .image) (given .store)) 0) (x .1) given) (halves-are m answers given h))

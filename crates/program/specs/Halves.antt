@@ -1,0 +1,85 @@
+-- What a round's halves leave alone, and that they do not look at the list of requests done.
+use Prim.Native.Nat.{ℕ, zero, suc, _≤_}
+use mathlib.Core.Bool.{false, true≢false}
+use mathlib.Core.List.{List, []}
+use mathlib.Core.Path.{_≡_, refl, sym, ap, _∙_}
+use native.Mathlib.Nat.{le-refl}
+use native.Mathlib.Omega.{arith}
+use Rattle.arith.specs.Parts.{upd-other, upd-case}
+use Rattle.memory.specs.declared.DeviceAnswer.{DeviceAnswer}
+use Rattle.plan.specs.declared.records.Plan.{Plan}
+use Rattle.rules.specs.Admission.{admits}
+use Rattle.rules.specs.Best.{ready-plain}
+use Rattle.rules.specs.Layout.{Layout, layoutOf}
+use Rattle.rules.specs.Machine.{Core, isPending, secondHalf}
+use Rattle.rules.specs.Memory.{Memory}
+use Rattle.rules.specs.Reachable.{Reachable}
+use Rattle.rules.specs.Requests.{running-on}
+use Rattle.rules.specs.Round.{Half, answerOf, takeIn, takeAll, roundHalves}
+use Rattle.rules.specs.StepLaws.{take-case, untouched, start-case}
+
+-- core and memory of a half
+abbrev pub both : Half → Core × Memory
+both h = (h .core, h .memory)
+
+-- a half with nothing but these
+abbrev pub bare : Core × Memory → Half
+bare x = record { core = x .0; memory = x .1; done = λ a. [] }
+
+-- both halves of a round read no more, and so give the same of both
+module _ (p : Plan) (answers : List DeviceAnswer) where
+  take-bare : (h : Half) (n : ℕ) → both (takeAll p answers n h) ≡ both (takeAll p answers n (bare (both h)))
+  unfolding takeAll takeIn
+  take-bare h zero = refl
+  take-bare h (suc n) = ap (λ x. both (takeIn p n (answerOf answers n) (bare x))) (take-bare h n)
+
+  pub round-bare : (h : Half) → both (roundHalves p answers h) ≡ both (roundHalves p answers (bare (both h)))
+  unfolding roundHalves
+  round-bare h = ap (λ x. (secondHalf (layoutOf p) (p .«device_count») (x .0), x .1)) (take-bare h (p .«device_count»))
+
+-- the second half leaves an area that is not pending
+starts-leave-job : (p : Layout) (n : ℕ) (c : Core) (a : ℕ) → isPending (c .jobs a) ≡ false → secondHalf p n c .jobs a ≡ c .jobs a
+unfolding secondHalf
+starts-leave-job p zero c a idle = refl
+starts-leave-job p (suc n) c a idle =
+    let e = secondHalf p n c in
+    let ih = starts-leave-job p n c a idle in
+    start-case (λ x. x .jobs a ≡ c .jobs a) p n e ih
+    (λ b _ r _. upd-case (λ j. j ≡ c .jobs a) (e .jobs) b a _
+    (λ g. absurd (true≢false (sym (ready-plain p e n b .0 r .0) ∙ ap (λ i. isPending (e .jobs i)) g ∙ ap isPending ih ∙ idle)))
+    (λ _. ih))
+    (λ b _. ih)
+
+-- and every device that has not had its turn
+starts-leave-device : (p : Layout) (n : ℕ) (c : Core) (d : ℕ) → n ≤ d → secondHalf p n c .devices d ≡ c .devices d
+unfolding secondHalf
+starts-leave-device p zero c d h = refl
+starts-leave-device p (suc n) c d h =
+    let e = secondHalf p n c in
+    let ih = starts-leave-device p n c d (omega arith) in
+    start-case (λ x. x .devices d ≡ c .devices d) p n e ih
+    (λ b _ _ _. upd-other (e .devices) n d _ (λ g. omega arith) ∙ ih)
+    (λ b _. upd-other (e .devices) n d _ (λ g. omega arith) ∙ ih)
+
+module _ (p : Plan) (answers : List DeviceAnswer) (h : Half) (reach : Reachable (layoutOf p) (admits p) (h .core)) where
+  -- the first half leaves an area that is not pending
+  answers-leave-job : (n a : ℕ) → isPending (h .core .jobs a) ≡ false → takeAll p answers n h .core .jobs a ≡ h .core .jobs a
+  unfolding takeAll
+  answers-leave-job zero a idle = refl
+  answers-leave-job (suc n) a idle =
+      take-case p n (answerOf answers n) (takeAll p answers n h) a (λ j _. j ≡ h .core .jobs a)
+      (λ q e. absurd (true≢false (sym (running-on reach (sym (untouched p answers h reach n n (le-refl n) .device) ∙ e) .pending) ∙ idle)))
+      (answers-leave-job n a idle)
+
+  -- so a round leaves an area that is not pending
+  pub round-leaves-job : (a : ℕ) → isPending (h .core .jobs a) ≡ false → roundHalves p answers h .core .jobs a ≡ h .core .jobs a
+  unfolding roundHalves
+  round-leaves-job a idle =
+      let e = answers-leave-job (p .«device_count») a idle in
+      starts-leave-job (layoutOf p) (p .«device_count») _ a (ap isPending e ∙ idle) ∙ e
+
+  -- and a device that the plan does not have
+  pub round-leaves-device : (d : ℕ) → p .«device_count» ≤ d → roundHalves p answers h .core .devices d ≡ h .core .devices d
+  unfolding roundHalves
+  round-leaves-device d l =
+      starts-leave-device (layoutOf p) (p .«device_count») _ d l ∙ untouched p answers h reach (p .«device_count») d l .device

@@ -1,0 +1,29 @@
+-- The manager that calls lead to, seen beside the wait history of the same calls.
+use Prim.Native.Nat.{ℕ, _<_, min}
+use mathlib.Core.Path.{_≡_}
+use lib.ListN.{length}
+use Rattle.manager.specs.Calls.{coreOf}
+use Rattle.manager.specs.declared.Manager.{Manager}
+use Rattle.plan.specs.declared.records.Plan.{Plan}
+use Rattle.rounds.specs.Close.{mostWaits, waitsIn}
+use Rattle.rules.specs.History.{Tally, History}
+use Rattle.state.specs.declared.Waits.{Waits}
+
+-- "each as the wait book of document 01 has it, or as 4,294,967,295 if that is smaller"
+abbrev pub stuck : Tally → Waits
+stuck w =
+    record {
+      own = min (w .own) mostWaits;
+      above = min (w .above) mostWaits;
+      below = min (w .below) mostWaits;
+      locked = min (w .locked) mostWaits;
+    }
+
+-- manager m of plan p stands where history h does
+pub record Stands (p : Plan) (m : Manager) (h : History) : Type 0 where
+  pub plan : m .plan ≡ p
+  pub areas-length : length (m .areas) ≡ 8
+  pub devices-length : length (m .devices) ≡ 4
+  -- every area's job, and what every device does
+  pub core : coreOf m ≡ h .core
+  pub waits : (a : ℕ) → a < 8 → waitsIn (m .areas) a ≡ stuck (h .tallies a)

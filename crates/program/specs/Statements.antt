@@ -1,0 +1,122 @@
+-- document 00: the three demands of the program. Manager m is the one that a list of calls returned, history h the wait history of the same
+-- calls; `answerOf`, `after` and `memoryAfter` (Run) are what the calls' contracts say of the next call.
+use Prim.Native.Nat.{ℕ, _+_, _≤_, _<_}
+use mathlib.Core.Bool.{true, false}
+use mathlib.Core.List.{List, []}
+use mathlib.Core.Logic.{_≢_}
+use mathlib.Core.Path.{_≡_}
+use lib.ListN.{getD}
+use Rattle.machine.specs.Sound.{isSound}
+use Rattle.manager.specs.Calls.{coreOf, infoOf}
+use Rattle.manager.specs.Load.{zeroManager, loadedManager}
+use Rattle.manager.specs.declared.Manager.{Manager}
+use Rattle.memory.specs.declared.DeviceAnswer.{DeviceAnswer}
+use Rattle.memory.specs.declared.DeviceAnswer.the-variants as Answers
+use Rattle.memory.specs.declared.JobType.the-variants.{Write, Read}
+use Rattle.memory.specs.declared.Task.{Task}
+use Rattle.plan.specs.Questions.{loadNumber}
+use Rattle.plan.specs.Records.{planOf}
+use Rattle.plan.specs.declared.records.Plan.{Plan}
+use Rattle.rounds.specs.Close.{waitsIn}
+use Rattle.rules.specs.History.{jobInfo, Call, submit, cancels, asks, round, History, withCore, start, step, run}
+use Rattle.rules.specs.Layout.{layoutOf}
+use Rattle.rules.specs.Machine.{isPending, isCancelling, isOwn, waitOf}
+use Rattle.rules.specs.Memory.{Memory}
+use Rattle.rules.specs.Reach.{callNumber, isRound, requestOf}
+use Rattle.rules.specs.Results.{Ends}
+use Rattle.rules.specs.Round.{answerOf as answerFor, windowPlace}
+use Rattle.rules.specs.Session.{memoryOf}
+use Rattle.rules.specs.Statements as Rules
+use Rattle.segment.specs.Bytes.{joined, mappedByte, mappedBytes}
+use Rattle.segment.specs.Segments.{isLock}
+use Rattle.state.specs.Fresh.{noWaits}
+use Rattle.state.specs.declared.DeviceState.the-variants.{Runs}
+use Rattle.program.specs.Run.{answerOf, after, memoryAfter, runOf}
+use Rattle.program.specs.Stands.{stuck, Stands}
+
+-- the history's numbers and done requests, beside the jobs and devices of the manager itself
+abbrev pub beside : Manager → History → History
+beside m h = withCore (coreOf m) h
+
+-- "The lent memory, which is the chip image and the job store, changes only in a round, and only inside requests that the round finishes
+-- and the rules of document 01 let change it. Every input gets an answer; a refused call leaves image, store and manager as they were."
+-- To a round the memory is lent that the call names.
+pub record Demand1 (p : Plan) (m : Manager) : Type 0 where
+  -- "changes only in a round"
+  pub other-calls : (k : Call) (lent : Memory) → isRound k ≡ false → memoryAfter k m lent ≡ lent
+  -- an accepted round
+  pub rounds : (answers : List DeviceAnswer) (lent : Memory) → let k = round answers lent in answerOf k m ≡ 0 →
+      Rules.RoundChanges p (coreOf m) answers lent (memoryAfter k m lent)
+  -- "a refused call leaves image, store and manager as they were"
+  pub refused : (k : Call) → answerOf k m ≢ 0 → after k m ≡ m
+  pub refused-round : (answers : List DeviceAnswer) (lent : Memory) → let k = round answers lent in answerOf k m ≢ 0 → memoryAfter k m lent ≡ lent
+
+-- "Each job is cut, ordered, retried, cancelled and given its result by the rules of document 01.": area a's latest job. The requests of that
+-- job that were answered done are listed by the history.
+pub record Demand2 (p : Plan) (m : Manager) (h : History) (a : ℕ) : Type 0 where
+  -- "requests answered done that, joined in order, are its mapped bytes": as far as it is processed
+  pub joined-so-far : let j = coreOf m .jobs a in joined (h .done a) ≡ mappedBytes p a (j .task) 0 (j .processed)
+  -- "A successful job other than a lock request has requests answered done that, joined in order, are its mapped bytes"
+  pub joined-whole : let j = coreOf m .jobs a in isPending j ≡ false → j .result .0 ≡ 0 → isLock (j .task .kind) ≡ false →
+      joined (h .done a) ≡ mappedBytes p a (j .task) 0 (j .task .length)
+  -- "each once"
+  pub bytes-once : let t = coreOf m .jobs a .task in
+      (x y : ℕ) → x < t .length → y < t .length → mappedByte p a t x ≡ mappedByte p a t y → x ≡ y
+  -- "writes take them from it"
+  pub done-write : (answers : List DeviceAnswer) (lent : Memory) → let k = round answers lent in answerOf k m ≡ 0 → (d polls : ℕ) →
+      coreOf m .devices d ≡ Runs a polls → answerFor answers d ≡ Answers.Done → coreOf m .jobs a .task .kind ≡ Write →
+      (x : ℕ) → x < requestOf p (coreOf m) a .length →
+      getD (memoryAfter k m lent .image) (requestOf p (coreOf m) a .start .0 + x) 0
+      ≡ getD (lent .store) (windowPlace p a (coreOf m .jobs a) + x) 0
+  -- "reads bring those bytes to the store"
+  pub done-read : (answers : List DeviceAnswer) (lent : Memory) → let k = round answers lent in answerOf k m ≡ 0 → (d polls : ℕ) →
+      coreOf m .devices d ≡ Runs a polls → answerFor answers d ≡ Answers.Done → coreOf m .jobs a .task .kind ≡ Read →
+      (x : ℕ) → x < requestOf p (coreOf m) a .length →
+      getD (memoryAfter k m lent .store) (windowPlace p a (coreOf m .jobs a) + x) 0
+      ≡ getD (lent .image) (requestOf p (coreOf m) a .start .0 + x) 0
+  -- "An accepted job makes its area pending and sets processed length and counts to 0; the old result stands until the job ends."
+  pub accepted-job : (t : Task) → let k = submit a t in answerOf k m ≡ 0 → let j = coreOf (after k m) .jobs a in
+      (isPending j ≡ true)
+      × (j .task ≡ t)
+      × (j .processed ≡ 0)
+      × (j .result ≡ coreOf m .jobs a .result)
+      × (waitsIn (after k m .areas) a ≡ noWaits)
+      × (step p k h .done a ≡ [])
+  -- "A cancel ends a job without a running request immediately, result 3. With one running, the area stays pending"
+  pub accepted-cancel : let k = cancels a in answerOf k m ≡ 0 → let j = coreOf (after k m) .jobs a in
+      (isOwn (waitOf (layoutOf p) (coreOf m) a) ≡ false → (isPending j ≡ false) × (j .result .0 ≡ 3))
+      × (isOwn (waitOf (layoutOf p) (coreOf m) a) ≡ true → (isPending j ≡ true) × (isCancelling (j .status) ≡ true))
+  -- a job that a call ends has its result by the rules, and there are no others
+  pub result-so : (k : Call) → let e = coreOf (after k m) in isPending (coreOf m .jobs a) ≡ true → isPending (e .jobs a) ≡ false →
+      Ends p (beside m h) e a k (e .jobs a .result .0) × (e .jobs a .result .0 ≤ 3)
+
+-- Area a's latest job: the history's numbers, "without a limit", and what is reported of them.
+pub record Demand3 (p : Plan) (m : Manager) (h : History) (a : ℕ) : Type 0 where
+  -- "rounds = own + above + below + locked, and one more if a round ended it", and the bounds on own and below
+  pub numbers : Rules.Demand3 p (beside m h) a
+  -- "All four are reported, each as the wait book of document 01 has it, or as 4,294,967,295 if that is smaller." "The reported counts are
+  -- those in job info."
+  pub reported : a < p .«area_count» → (answerOf (asks (jobInfo a)) m ≡ 0) × (infoOf m a .waits ≡ stuck (h .tallies a))
+
+-- All that holds of the program after a list of calls.
+pub record Holds (p : Plan) (m : Manager) (h : History) : Type 0 where
+  -- "Every state reached from an accepted load passes it", the soundness test
+  pub sound : isSound (m .plan) (m .areas) (m .devices) ≡ true
+  -- the manager stands where the history does, and to every next call it answers, and does with lent memory, what the rules say
+  pub stands : Stands p m h
+  pub answers : (k : Call) → answerOf k m ≡ callNumber p k h
+  pub memory : (answers : List DeviceAnswer) (lent : Memory) → let k = round answers lent in memoryAfter k m lent ≡ memoryOf p k h lent
+  pub demand1 : Demand1 p m
+  pub demand2 : (a : ℕ) → Demand2 p m h a
+  pub demand3 : (a : ℕ) → Demand3 p m h a
+
+-- "after every list of jobs, locks, releases, cancels, queries and rounds from an accepted load, refused ones included, whatever the chips
+-- answer and whatever image and store hold"
+abbrev pub AllCalls : Type 0
+AllCalls = (l : List ℕ) → loadNumber l ≡ 0 → (cs : List Call) → Holds (planOf l) (runOf cs (loadedManager l)) (run (planOf l) cs start)
+
+-- "the manager of all zeros does not": every call on it is answered by 9, and that manager is what a refused load returns
+pub record Unloaded : Type 0 where
+  pub unsound : isSound (zeroManager .plan) (zeroManager .areas) (zeroManager .devices) ≡ false
+  pub refused-load : (l : List ℕ) → loadNumber l ≢ 0 → loadedManager l ≡ zeroManager
+  pub answers : (k : Call) → answerOf k zeroManager ≡ 9
