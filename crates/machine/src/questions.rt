@@ -1,9 +1,11 @@
-// Questions 9 to 17 of the calls, in their order.
+// Questions 9 to 19 of the calls, in their order.
 ghost use mathlib.Core.List.{_∷_};
 ghost use mathlib.Core.Path.{_≡_};
+ghost use Prim.Native.Nat.{_≤_};
+ghost use Rattle.arith.specs.Cases.{pick};
 ghost use Rattle.arith.specs.FirstNo.{firstNo};
 ghost use Rattle.memory.specs.Numbers.{admissionNumber};
-ghost use Rattle.rules.specs.Admission.{infoQuestions, cancelQuestions, jobQuestions};
+ghost use Rattle.rules.specs.Admission.{infoQuestions, cancelQuestions, jobQuestions, imageFits, storeReaches, roundNumber};
 ghost use Rattle.machine.specs.Sound.{isSound, coreIn};
 use crate::jobs::is_pending;
 use crate::soundness::is_sound;
@@ -11,6 +13,7 @@ use admission::range_admission;
 use memory::Admission;
 use memory::Refusal;
 use memory::Task;
+use plan::questions::device_sum;
 use plan::records::Plan;
 use state::Area;
 use state::Device;
@@ -73,4 +76,52 @@ pub fn job_admission(
         return Admission::Refused(Refusal::Busy);
     }
     range_admission(plan, area, task)
+}
+
+// 18: is the image as long as the devices together?
+fn image_fits(plan: Plan, image: &[u8]) -> bool
+    requires { ⌜ plan .«device_count» ≤ 4 ⌝ }
+    ensures { λ r. ⌜ r ≡ imageFits plan (now (image .entry)) ⌝ }
+{
+    let devices = plan.devices;
+    let sum = device_sum(devices, plan.device_count);
+    image.len() as u64 == sum
+}
+
+// 19: does the store reach every window's end, and so the furthest?
+fn store_reaches(plan: Plan, store: &[u8]) -> bool
+    requires { ⌜ plan .«area_count» ≤ 8 ⌝ }
+    ensures { λ r. ⌜ r ≡ storeReaches plan (now (store .entry)) ⌝ }
+{
+    let mut a = 0;
+    while a < plan.area_count {
+        let record = plan.areas[a];
+        if (store.len() as u64) < record.window_end() {
+            return false;
+        }
+        a += 1;
+    }
+    true
+}
+
+// 9, 18, 19: a round.
+pub fn round_admission(
+    plan: Plan,
+    areas: [Area; 8],
+    devices: [Device; 4],
+    image: &[u8],
+    store: &[u8],
+) -> Admission
+    ensures { λ r. ⌜ admissionNumber r ≡ pick (isSound plan areas devices) (roundNumber plan (now (image .entry)) (now (store .entry))) 9 ⌝ }
+{
+    if !is_sound(plan, areas, devices) {
+        return Admission::Refused(Refusal::Unsound);
+    }
+    if !image_fits(plan, image) {
+        return Admission::Refused(Refusal::ImageLength);
+    }
+    if !store_reaches(plan, store) {
+        return Admission::Refused(Refusal::StoreLength);
+    }
+    Admission::Accepted
 }
