@@ -1,15 +1,19 @@
 -- What a device does for an area, as the code asks it.
-use Prim.Native.Nat.{ℕ, _≤_}
-use mathlib.Core.Bool.{Bool, false}
+use Prim.Native.Nat.{ℕ, _≤_, _<_}
+use mathlib.Core.Bool.{Bool, true, false, false≢true}
 use mathlib.Core.List.{List}
 use mathlib.Core.Path.{_≡_, refl, ap, sym, _∙_}
+use native.Mathlib.Omega.{arith}
 use lib.Dec.{eqb}
 use lib.ListN.{length, List·getD-eq-default}
-use Rattle.arith.specs.Cases.{pick, by-bool}
+use Rattle.arith.specs.Cases.{pick, by-bool, by-leb}
 use Rattle.arith.specs.Parts.{upd-same}
+use Rattle.memory.specs.declared.Task.{Task}
 use Rattle.plan.specs.declared.records.Plan.{Plan}
+use Rattle.rules.specs.Admission.{holdsLock}
 use Rattle.rules.specs.Layout.{Layout, layoutOf}
-use Rattle.rules.specs.Machine.{Core, cancelled, ended, isOwn, behind, waitOn, waitOf, cancel}
+use Rattle.rules.specs.Machine.{Core, due, need, begunWith, begun, cancelled, ended, isOwn, behind, waitOn, waitOf, cancel}
+use Rattle.rules.specs.Queries.{requestOn}
 use Rattle.segment.specs.Segments.{segmentAt}
 use Rattle.segment.specs.declared.Segment.{Segment}
 use Rattle.state.specs.Fresh.{freeDevice}
@@ -17,6 +21,7 @@ use Rattle.state.specs.declared.Area.{Area}
 use Rattle.state.specs.declared.Device.{Device}
 use Rattle.state.specs.declared.DeviceState.{DeviceState}
 use Rattle.state.specs.declared.DeviceState.the-variants.{Free, Runs, LockedFor}
+use Rattle.state.specs.declared.Job.{Job}
 use Rattle.machine.specs.Sound.{jobIn, stateIn, coreIn}
 
 -- the device runs the request of area a
@@ -32,16 +37,33 @@ own-runs p a Free = refl
 own-runs p a (LockedFor b) = refl
 own-runs p a (Runs b polls) = by-bool (eqb b a) (λ e. rw e) (λ e. rw e (by-bool (p .outranks b a) (λ f. rw f) (λ f. rw f)))
 
-module _ (p : Plan) (areas : List Area) (devices : List Device) (a : ℕ) (s : Segment)
-    (is : s ≡ segmentAt p a (jobIn areas a .task) (jobIn areas a .processed)) where
-  -- the device that the area needs
-  pub area-runs : runsFor a (stateIn devices (s .device)) ≡ isOwn (waitOf (layoutOf p) (coreIn areas devices) a)
-  unfolding layoutOf
-  area-runs = ap (λ t. runsFor a (stateIn devices (t .device))) is ∙ own-runs (layoutOf p) a (stateIn devices (segmentAt p a (jobIn areas a .task) (jobIn areas a .processed) .device))
+-- a device that the manager does not have does nothing
+pub state-past : (devices : List Device) (d n : ℕ) → length devices ≡ n → n ≤ d → Free ≡ stateIn devices d
+state-past devices d n e h = sym (ap (λ x. x .state) (List·getD-eq-default devices freeDevice (omega (arith, e, h))))
 
-  -- one that the manager does not have does nothing
-  pub past-devices : length devices ≤ s .device → false ≡ isOwn (waitOf (layoutOf p) (coreIn areas devices) a)
-  past-devices h = sym (ap (λ x. runsFor a (x .state)) (List·getD-eq-default devices freeDevice h)) ∙ area-runs
+-- a lock is held on a device that the manager has
+pub lock-known : (devices : List Device) (d a n : ℕ) → length devices ≡ n → holdsLock a (stateIn devices d) ≡ true → d < n
+lock-known devices d a n e h =
+    by-leb n d (λ _ l. absurd (false≢true (ap (holdsLock a) (state-past devices d n e l) ∙ h))) (λ _ l. l)
+
+-- the segment s that is due, and what the device that it lies on does
+module _ (p : Plan) (areas : List Area) (devices : List Device) (a : ℕ) (s : Segment) (x : DeviceState)
+    (is : s ≡ segmentAt p a (jobIn areas a .task) (jobIn areas a .processed)) (here : x ≡ stateIn devices (s .device)) where
+  pub area-runs : runsFor a x ≡ isOwn (waitOf (layoutOf p) (coreIn areas devices) a)
+  unfolding layoutOf
+  area-runs =
+      ap (runsFor a) here ∙ ap (λ t. runsFor a (stateIn devices (t .device))) is
+      ∙ own-runs (layoutOf p) a (stateIn devices (segmentAt p a (jobIn areas a .task) (jobIn areas a .processed) .device))
+
+  pub request-of : requestOn a s x ≡ requestOn a (due (layoutOf p) a (jobIn areas a)) (stateIn devices (need (layoutOf p) a (jobIn areas a)))
+  unfolding layoutOf
+  request-of = ap (requestOn a s) here ∙ ap (λ t. requestOn a t (stateIn devices (t .device))) is
+
+-- the job of an accepted task, whose first segment is s
+pub begun-first : (p : Plan) (a : ℕ) (t : Task) (j : Job) (s : Segment) → s ≡ segmentAt p a t 0 →
+    begunWith (s .retries) t j ≡ begun (layoutOf p) a t j
+unfolding layoutOf
+begun-first p a t j s is = ap (λ s'. begunWith (s' .retries) t j) is
 
 -- the job of a cancelled area. Test: does its request run?
 pub cancel-job : (p : Layout) (a : ℕ) (c : Core) (t : Bool) → t ≡ isOwn (waitOf p c a) →

@@ -1,4 +1,6 @@
 pub mod JobLaws
+pub mod QueryLaws
+pub mod QuestionLaws
 pub mod Sound
 pub mod SoundLaws
 pub mod DeviceLaws

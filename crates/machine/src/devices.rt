@@ -2,18 +2,32 @@
 ghost use mathlib.Core.Path.{_≡_};
 ghost use Prim.Native.Nat.{_≤_, _<_};
 ghost use Rattle.rules.specs.Layout.{layoutOf};
-ghost use Rattle.rules.specs.Machine.{isOwn, waitOf, cancel};
-ghost use Rattle.machine.specs.Sound.{coreIn};
+ghost use Rattle.rules.specs.Admission.{holdsLock};
+ghost use Rattle.rules.specs.Machine.{begun, isOwn, waitOf, cancel};
+ghost use Rattle.machine.specs.Sound.{jobIn, stateIn, coreIn};
 ghost use Rattle.machine.specs.DeviceLaws.{runsFor};
+use crate::jobs::begun;
 use crate::jobs::cancelled;
 use crate::jobs::ended;
 use memory::JobResult;
+use memory::Task;
 use plan::records::Plan;
 use segment::segment_at;
 use state::Area;
 use state::Device;
 use state::DeviceState;
 use state::Job;
+
+// What a device does. A number from the plan may lie past the devices that a manager has: there nothing runs or is locked.
+pub fn state_on(devices: [Device; 4], device: usize) -> DeviceState
+    ensures { λ r. ⌜ r ≡ stateIn devices device ⌝ }
+{
+    if 4 <= device {
+        return DeviceState::Free;
+    }
+    let entry = devices[device];
+    entry.state
+}
 
 fn runs_for(state: DeviceState, area: usize) -> bool
     ensures { λ r. ⌜ r ≡ runsFor area state ⌝ }
@@ -37,13 +51,31 @@ pub fn area_runs(plan: Plan, areas: [Area; 8], devices: [Device; 4], area: usize
     let job = entry.job;
     let task = job.task;
     let segment = segment_at(plan, area, task, job.processed);
-    let device = segment.device as usize;
-    if 4 <= device {
-        return false;
-    }
-    let holder = devices[device];
-    let state = holder.state;
+    let state = state_on(devices, segment.device as usize);
     runs_for(state, area)
+}
+
+// Is the device locked for the area?
+pub fn holds_lock(devices: [Device; 4], device: usize, area: usize) -> bool
+    ensures { λ r. ⌜ r ≡ holdsLock area (stateIn devices device) ⌝ }
+{
+    let state = state_on(devices, device);
+    match state {
+        DeviceState::Free => false,
+        DeviceState::Runs { area: _, polls: _ } => false,
+        DeviceState::LockedFor(holder) => area == holder as usize,
+    }
+}
+
+// The area's job after an accepted task.
+pub fn begun_job(plan: Plan, areas: [Area; 8], area: usize, task: Task) -> Job
+    requires { ⌜ (plan .«sub_area_count» ≤ 32) × (area < 8) ⌝ }
+    ensures { λ r. ⌜ r ≡ begun (layoutOf plan) area task (jobIn areas area) ⌝ }
+{
+    let first = segment_at(plan, area, task, 0);
+    let entry = areas[area];
+    let job = entry.job;
+    begun(task, first.retries, job)
 }
 
 // The area's job after a cancel: over at once, unless its request runs.

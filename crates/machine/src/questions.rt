@@ -1,16 +1,24 @@
-// Questions 9 to 17 of the calls, in their order.
+// Questions 9 to 19 of the calls, in their order.
 ghost use mathlib.Core.List.{_∷_};
 ghost use mathlib.Core.Path.{_≡_};
+ghost use Prim.Native.Nat.{_≤_};
+ghost use Rattle.arith.specs.Cases.{pick};
 ghost use Rattle.arith.specs.FirstNo.{firstNo};
 ghost use Rattle.memory.specs.Numbers.{admissionNumber};
-ghost use Rattle.rules.specs.Admission.{infoQuestions, cancelQuestions, jobQuestions};
+ghost use Rattle.rules.specs.Admission.{infoQuestions, cancelQuestions, memoryInfoQuestions, jobQuestions, releaseQuestions, imageFits, storeReaches, roundNumber};
 ghost use Rattle.machine.specs.Sound.{isSound, coreIn};
+use crate::devices::holds_lock;
 use crate::jobs::is_pending;
 use crate::soundness::is_sound;
+use admission::is_inside;
+use admission::on_one_device;
 use admission::range_admission;
+use admission::range_device;
 use memory::Admission;
+use memory::LogicalAddress;
 use memory::Refusal;
 use memory::Task;
+use plan::questions::device_sum;
 use plan::records::Plan;
 use state::Area;
 use state::Device;
@@ -24,6 +32,28 @@ pub fn info_admission(plan: Plan, areas: [Area; 8], devices: [Device; 4], area: 
     }
     if plan.area_count <= area {
         return Admission::Refused(Refusal::UnknownArea);
+    }
+    Admission::Accepted
+}
+
+// 9, 10, 12: memory info, with length 1.
+pub fn memory_admission(
+    plan: Plan,
+    areas: [Area; 8],
+    devices: [Device; 4],
+    area: usize,
+    address: LogicalAddress,
+) -> Admission
+    ensures { λ r. ⌜ admissionNumber r ≡ firstNo 9 (isSound plan areas devices ∷ memoryInfoQuestions plan area address) ⌝ }
+{
+    if !is_sound(plan, areas, devices) {
+        return Admission::Refused(Refusal::Unsound);
+    }
+    if plan.area_count <= area {
+        return Admission::Refused(Refusal::UnknownArea);
+    }
+    if !is_inside(plan, area, address, 1) {
+        return Admission::Refused(Refusal::Range);
     }
     Admission::Accepted
 }
@@ -73,4 +103,82 @@ pub fn job_admission(
         return Admission::Refused(Refusal::Busy);
     }
     range_admission(plan, area, task)
+}
+
+// 9, 10, 12, 15, 16: a release.
+pub fn release_admission(
+    plan: Plan,
+    areas: [Area; 8],
+    devices: [Device; 4],
+    area: usize,
+    address: LogicalAddress,
+    length: u32,
+) -> Admission
+    ensures { λ r. ⌜ admissionNumber r ≡ firstNo 9 (isSound plan areas devices ∷ releaseQuestions plan (coreIn areas devices) area address length) ⌝ }
+{
+    if !is_sound(plan, areas, devices) {
+        return Admission::Refused(Refusal::Unsound);
+    }
+    if plan.area_count <= area {
+        return Admission::Refused(Refusal::UnknownArea);
+    }
+    if !is_inside(plan, area, address, length) {
+        return Admission::Refused(Refusal::Range);
+    }
+    if !on_one_device(plan, area, address, length) {
+        return Admission::Refused(Refusal::SeveralDevices);
+    }
+    let device = range_device(plan, area, address, length);
+    if !holds_lock(devices, device as usize, area) {
+        return Admission::Refused(Refusal::NotHolder);
+    }
+    Admission::Accepted
+}
+
+// 18: is the image as long as the devices together?
+fn image_fits(plan: Plan, image: &[u8]) -> bool
+    requires { ⌜ plan .«device_count» ≤ 4 ⌝ }
+    ensures { λ r. ⌜ r ≡ imageFits plan (now (image .entry)) ⌝ }
+{
+    let devices = plan.devices;
+    let sum = device_sum(devices, plan.device_count);
+    image.len() as u64 == sum
+}
+
+// 19: does the store reach every window's end, and so the furthest?
+fn store_reaches(plan: Plan, store: &[u8]) -> bool
+    requires { ⌜ plan .«area_count» ≤ 8 ⌝ }
+    ensures { λ r. ⌜ r ≡ storeReaches plan (now (store .entry)) ⌝ }
+{
+    let mut a = 0;
+    while a < plan.area_count {
+        let record = plan.areas[a];
+        if (store.len() as u64) < record.window_end() {
+            return false;
+        }
+        a += 1;
+    }
+    true
+}
+
+// 9, 18, 19: a round.
+pub fn round_admission(
+    plan: Plan,
+    areas: [Area; 8],
+    devices: [Device; 4],
+    image: &[u8],
+    store: &[u8],
+) -> Admission
+    ensures { λ r. ⌜ admissionNumber r ≡ pick (isSound plan areas devices) (roundNumber plan (now (image .entry)) (now (store .entry))) 9 ⌝ }
+{
+    if !is_sound(plan, areas, devices) {
+        return Admission::Refused(Refusal::Unsound);
+    }
+    if !image_fits(plan, image) {
+        return Admission::Refused(Refusal::ImageLength);
+    }
+    if !store_reaches(plan, store) {
+        return Admission::Refused(Refusal::StoreLength);
+    }
+    Admission::Accepted
 }
