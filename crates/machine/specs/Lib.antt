@@ -2,5 +2,6 @@ pub mod JobLaws
 pub mod QueryLaws
 pub mod QuestionLaws
 pub mod Sound
+pub mod Arrays
 pub mod SoundLaws
 pub mod DeviceLaws

@@ -23,7 +23,7 @@ use Rattle.rules.specs.Reachable.{Reachable}
 use Rattle.rules.specs.Requests.{AtCuts}
 use Rattle.rules.specs.Round.{roundHalves}
 use Rattle.rules.specs.Session.{memoryOf}
-use Rattle.program.specs.Halves.{both, round-bare}
+use Rattle.rounds.specs.Halves.{both, round-bare}
 use Rattle.program.specs.Run.{queryAnswer, answerOf, memoryAfter}
 
 -- a manager that does not pass answers 9 to every call

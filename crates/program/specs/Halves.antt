@@ -1,4 +1,4 @@
--- What a round's halves leave alone, and that they do not look at the list of requests done.
+-- What a round's halves leave alone.
 use Prim.Native.Nat.{ℕ, zero, suc, _≤_}
 use mathlib.Core.Bool.{false, true≢false}
 use mathlib.Core.List.{List, []}
@@ -17,25 +17,6 @@ use Rattle.rules.specs.Reachable.{Reachable}
 use Rattle.rules.specs.Requests.{running-on}
 use Rattle.rules.specs.Round.{Half, answerOf, takeIn, takeAll, roundHalves}
 use Rattle.rules.specs.StepLaws.{take-case, untouched, start-case}
-
--- core and memory of a half
-abbrev pub both : Half → Core × Memory
-both h = (h .core, h .memory)
-
--- a half with nothing but these
-abbrev pub bare : Core × Memory → Half
-bare x = record { core = x .0; memory = x .1; done = λ a. [] }
-
--- both halves of a round read no more, and so give the same of both
-module _ (p : Plan) (answers : List DeviceAnswer) where
-  take-bare : (h : Half) (n : ℕ) → both (takeAll p answers n h) ≡ both (takeAll p answers n (bare (both h)))
-  unfolding takeAll takeIn
-  take-bare h zero = refl
-  take-bare h (suc n) = ap (λ x. both (takeIn p n (answerOf answers n) (bare x))) (take-bare h n)
-
-  pub round-bare : (h : Half) → both (roundHalves p answers h) ≡ both (roundHalves p answers (bare (both h)))
-  unfolding roundHalves
-  round-bare h = ap (λ x. (secondHalf (layoutOf p) (p .«device_count») (x .0), x .1)) (take-bare h (p .«device_count»))
 
 -- the second half leaves an area that is not pending
 starts-leave-job : (p : Layout) (n : ℕ) (c : Core) (a : ℕ) → isPending (c .jobs a) ≡ false → secondHalf p n c .jobs a ≡ c .jobs a

@@ -20,7 +20,7 @@ use Rattle.state.specs.declared.DeviceState.{DeviceState}
 use Rattle.state.specs.declared.DeviceState.the-variants.{Free, LockedFor}
 use Rattle.state.specs.declared.Job.{Job}
 use Rattle.state.specs.declared.Waits.{Waits}
-use Rattle.program.specs.Arrays.{view-set, job-set, state-set, state-past}
+use Rattle.machine.specs.Arrays.{view-set, job-set, state-set, state-past}
 use Rattle.program.specs.Stands.{stuck, Stands}
 
 -- A job, a cancel or a release changes one entry of the core: with what it makes of that entry, the rest as it was, it is the whole core.

@@ -16,7 +16,8 @@ use Rattle.rules.specs.Round.{Half, roundHalves}
 use Rattle.state.specs.Fresh.{noJob}
 use Rattle.state.specs.declared.DeviceState.the-variants.{Free}
 use Rattle.program.specs.Answers.{Reached, halves-are}
-use Rattle.program.specs.Arrays.{job-past, state-past, areas-after-length, devices-after-length, waits-after, core-after}
+use Rattle.machine.specs.Arrays.{job-past, state-past}
+use Rattle.program.specs.Arrays.{areas-after-length, devices-after-length, waits-after, core-after}
 use Rattle.program.specs.Halves.{round-leaves-job, round-leaves-device}
 use Rattle.program.specs.Stands.{stuck, Stands}
 

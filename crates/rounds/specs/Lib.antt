@@ -1,3 +1,5 @@
 pub mod Close
 pub mod Effects
 pub mod Requests
+pub mod Halves
+pub mod AnswerLaws
