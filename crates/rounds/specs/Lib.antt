@@ -5,3 +5,4 @@ pub mod Halves
 pub mod AnswerLaws
 pub mod Picks
 pub mod PickLaws
+pub mod CloseLaws
