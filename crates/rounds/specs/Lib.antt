@@ -6,3 +6,4 @@ pub mod AnswerLaws
 pub mod Picks
 pub mod PickLaws
 pub mod CloseLaws
+pub mod NeedLaws

@@ -2,5 +2,6 @@
 pub mod answers;
 pub mod close;
 pub mod effects;
+pub mod halves;
 pub mod picks;
 pub mod requests;
