@@ -7,7 +7,7 @@ mod valid;
 mod wounds;
 
 pub use loose::loose;
-pub use small::small;
+pub use small::{full, small};
 pub use valid::valid;
 pub use wounds::{byte_changes, cuts, field_changes, wounded};
 
