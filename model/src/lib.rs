@@ -25,6 +25,7 @@
 //! - [`script`], [`subject`]: whole sessions as values, and the comparison of two that run them;
 //! - [`coverage`]: what the sessions tried;
 //! - [`shrink`]: the smallest session that still shows a difference, and its report;
+//! - [`fuzz`]: sessions of ever new seeds;
 //! - [`histogram`]: how often each number came up;
 //! - `proved`: the proved library, called through its C interface (feature `proved`).
 
@@ -32,6 +33,7 @@ pub mod admission;
 pub mod calls;
 pub mod coverage;
 pub mod demands;
+pub mod fuzz;
 pub mod histogram;
 pub mod jobs;
 pub mod manager;

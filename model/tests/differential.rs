@@ -4,10 +4,13 @@
 mod mutants;
 
 use model::coverage::Coverage;
+use model::fuzz::{fuzz, Ending};
 use model::random::Random;
 use model::script::Script;
 use model::shrink::{report, smallest};
 use model::subject::{compare, Model, Subject};
+use std::path::Path;
+use std::time::Duration;
 
 const SESSIONS: u32 = 3_000;
 const MOST_LINES: usize = 200;
@@ -50,5 +53,26 @@ fn what_is_found_is_made_small() {
         println!("{}\n{}", mutant.name, report(&small, &difference));
         assert!(small.lines.len() <= 8, "{}: {small:?}", mutant.name);
         assert!(small.plan.len() <= 200, "{}: {small:?}", mutant.name);
+    }
+}
+
+/// A run with ever new seeds ends with the time, or with a file that says all about a difference.
+#[test]
+fn fuzzing_ends_with_the_time_or_a_report() {
+    let folder = Path::new(env!("CARGO_TARGET_TMPDIR")).join("differences");
+    let run = |subject: &mut dyn Subject, milliseconds| {
+        let time = Duration::from_millis(milliseconds);
+        fuzz(subject, 71, time, &folder, &mut |_| {}).expect("a folder to write to")
+    };
+    match run(&mut Model, 200) {
+        Ending::NoDifference(coverage) => assert!(coverage.lines > 0),
+        Ending::Difference(file) => panic!("the model differs from itself: {file:?}"),
+    }
+    let Ending::Difference(file) = run(&mut mutants::all()[0], 60_000) else {
+        panic!("not found in a minute");
+    };
+    let report = std::fs::read_to_string(file).expect("a report");
+    for part in ["difference: ", "plan (hex): ", "input:\n", "of the model:\n", "found:\n"] {
+        assert!(report.contains(part), "{report}");
     }
 }
