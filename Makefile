@@ -2,7 +2,11 @@
 PLAN ?= examples/plan-t/plan.bin
 SESSION ?= examples/plan-t/session.txt
 
-.PHONY: run test bench model proved-library
+# How long `make fuzz` looks for a difference, and from which seed on (empty: a new one).
+SECONDS ?= 60
+SEED ?=
+
+.PHONY: run test bench model proved-library timing-library
 
 run:
 	@rt check bench >target.log 2>&1 || { cat target.log; rm -f target.log; exit 1; }
@@ -17,8 +21,13 @@ proved-library:
 model:
 	cargo test --offline --release --quiet --manifest-path model/Cargo.toml
 
-bench: proved-library
-	cargo run --offline --release --quiet --manifest-path model/Cargo.toml --features proved --bin bench_load
+# The loops over calls that the benchmarks link besides.
+timing-library:
+	@rt staticlib timing >target.log 2>&1 || { cat target.log; rm -f target.log; exit 1; }
+	@rm -f target.log
+
+bench: proved-library timing-library
+	cargo run --offline --release --quiet --manifest-path model/Cargo.toml --features timing --bin bench
 
 # `rt ci` comes last: its last line, 'N passed, 0 failed', is the verdict.
 test:

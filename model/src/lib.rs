@@ -27,6 +27,7 @@
 //! - [`shrink`]: the smallest session that still shows a difference, and its report;
 //! - [`fuzz`]: sessions of ever new seeds;
 //! - [`histogram`]: how often each number came up;
+//! - [`race`]: two ways to the same sum, timed in turn;
 //! - `proved`: the proved library, called through its C interface (feature `proved`).
 
 pub mod admission;
@@ -42,6 +43,7 @@ pub mod plan;
 pub mod plans;
 #[cfg(feature = "proved")]
 pub mod proved;
+pub mod race;
 pub mod random;
 pub mod script;
 pub mod segments;
