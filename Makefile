@@ -6,7 +6,7 @@ SESSION ?= examples/plan-t/session.txt
 SECONDS ?= 60
 SEED ?=
 
-.PHONY: run test bench model proved-library timing-library
+.PHONY: run test bench fuzz model proved-library timing-library
 
 run:
 	@rt check bench >target.log 2>&1 || { cat target.log; rm -f target.log; exit 1; }
@@ -28,6 +28,10 @@ timing-library:
 
 bench: proved-library timing-library
 	cargo run --offline --release --quiet --manifest-path model/Cargo.toml --features timing --bin bench
+
+# Sessions of ever new seeds on the library and on the model; a difference is made small and saved in model/differences.
+fuzz: proved-library
+	cargo run --offline --release --quiet --manifest-path model/Cargo.toml --features session --bin fuzz -- $(SECONDS) model/differences $(SEED)
 
 # `rt ci` comes last: its last line, 'N passed, 0 failed', is the verdict.
 test:
