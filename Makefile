@@ -38,6 +38,6 @@ test:
 	rt fmt --check
 	sh examples/recorded-plans.sh --check
 	$(MAKE) --no-print-directory model
-	$(MAKE) --no-print-directory proved-library
-	cargo test --offline --release --quiet --manifest-path model/Cargo.toml --features proved --test proved_load
+	$(MAKE) --no-print-directory proved-library timing-library
+	cargo test --offline --release --quiet --manifest-path model/Cargo.toml --features timing --test proved_load --test proved_calls
 	rt ci

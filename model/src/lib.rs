@@ -27,6 +27,7 @@
 //! - [`shrink`]: the smallest session that still shows a difference, and its report;
 //! - [`fuzz`]: sessions of ever new seeds;
 //! - [`histogram`]: how often each number came up;
+//! - [`loops`]: calls in loops, as the benchmarks time them;
 //! - [`race`]: two ways to the same sum, timed in turn;
 //! - `proved`: the proved library, called through its C interface (feature `proved`).
 
@@ -37,6 +38,7 @@ pub mod demands;
 pub mod fuzz;
 pub mod histogram;
 pub mod jobs;
+pub mod loops;
 pub mod manager;
 pub mod named;
 pub mod plan;

@@ -1,12 +1,16 @@
 // Calls made many times over in one loop, for the benchmarks: a manager can't cross to C, so the loops are here.
 // Each returns a sum of what the calls answered, which the benchmark compares with the model's.
 ghost use mathlib.Core.Path.{_≡_};
+ghost use Prim.Native.Nat.{_≤_};
 ghost use Rattle.manager.specs.Calls.{jobNumberOf, afterJob};
 ghost use Rattle.manager.specs.Load.{loadedManager};
 ghost use Rattle.timing.specs.Repeated.{taskOf, cancelTotal, jobTotal, pairTotal, busyManager, infoTotal};
 ghost use Rattle.memory.specs.Numbers.{admissionNumber};
+ghost use Rattle.rounds.specs.Effects.{memoryOf};
+ghost use Rattle.timing.specs.Rounds.{answerOf, answersOf, processedTotal, roundsTotal, benchAfter};
 use manager::Answered;
 use manager::Manager;
+use memory::DeviceAnswer;
 use memory::LogicalAddress;
 
 // A job of the type with this number.
@@ -129,4 +133,62 @@ pub extern "C" fn luvdrog_time_infos(plan: &[u8], kind: u8, length: u32, times: 
         i += 1;
     }
     sum
+}
+
+// What every device answers.
+fn answer_of(number: u32) -> DeviceAnswer
+    ensures { λ r. ⌜ r ≡ answerOf number ⌝ }
+{
+    if number == 0 {
+        return DeviceAnswer::Pending;
+    }
+    if number == 1 {
+        return DeviceAnswer::Done;
+    }
+    DeviceAnswer::Failed(number - 2)
+}
+
+// What the jobs of the eight areas have processed.
+fn processed_sum(manager: Manager) -> u64
+    ensures { λ r. ⌜ r ≡ processedTotal manager 8 ⌝ }
+    ensures { λ r. ⌜ r ≤ 34359738360 ⌝ }
+{
+    let mut sum: u64 = 0;
+    let mut i = 0;
+    while i < 8 {
+        let asked = manager.processed(i % 8);
+        sum += asked.processed as u64;
+        i += 1;
+    }
+    sum
+}
+
+// Rounds on a busy manager: the sum of their numbers and of what the jobs have processed then.
+#[no_mangle]
+pub extern "C" fn luvdrog_time_rounds(
+    plan: &[u8],
+    kind: u8,
+    length: u32,
+    answer: u32,
+    times: u32,
+    image: &mut [u8],
+    store: &mut [u8],
+) -> u64
+    ensures { λ r. ⌜ r ≡ roundsTotal (busyManager kind length (now (plan .entry))) (memoryOf (now (image .entry)) (now (store .entry))) (answersOf answer) times ⌝ }
+    ensures { λ _. ⌜ now (image .exit) ≡ benchAfter (busyManager kind length (now (plan .entry))) (memoryOf (now (image .entry)) (now (store .entry))) (answersOf answer) times .lent .image ⌝ }
+    ensures { λ _. ⌜ now (store .exit) ≡ benchAfter (busyManager kind length (now (plan .entry))) (memoryOf (now (image .entry)) (now (store .entry))) (answersOf answer) times .lent .store ⌝ }
+{
+    let mut manager = busy(plan, kind, length);
+    let answers = [answer_of(answer); 4];
+    let mut sum: u64 = 0;
+    let mut i: u32 = 0;
+    while i < times {
+        let answered = manager.round(answers, image, store);
+        let told = answered.answer;
+        let number = told.number();
+        sum += number as u64;
+        manager = answered.manager;
+        i += 1;
+    }
+    sum + processed_sum(manager)
 }

@@ -1,10 +1,11 @@
 //! Times the model and the proved library on the same work in one run, in nanoseconds of one
 //! operation, and gives the ratio of the two.
 
-use model::jobs::Operation;
-use model::manager::{JobInfo, Manager};
+use model::jobs::{Answer, JobType, Operation};
+use model::loops::{self, Request};
+use model::manager::Manager;
 use model::plan::{self, Plan};
-use model::plans::{encode, largest};
+use model::plans::{encode, enduring, largest};
 use model::proved::{self, timing};
 use model::race::{race, Race};
 use std::hint::black_box;
@@ -13,6 +14,8 @@ fn main() {
     println!("{:<44} {:>12} {:>12} {:>8}", "", "model ns", "proved ns", "ratio");
     loads();
     calls();
+    rounds();
+    growth();
 }
 
 fn report(name: &str, race: Race) {
@@ -51,7 +54,7 @@ fn load(name: &str, number: u8, bytes: &[u8]) {
 
 const CALLS: u32 = 200_000;
 
-/// The model's manager of a plan, for calls that are made in a loop on it as it stands.
+/// The model's manager of a plan, beside the bytes that the library loads.
 struct Peer {
     bytes: Vec<u8>,
     manager: Manager,
@@ -64,64 +67,104 @@ impl Peer {
         Peer { bytes, manager }
     }
 
-    /// With a job asked of each area, as the library's loops do it.
-    fn busy(plan: &Plan, operation: Operation, length: u32) -> Peer {
+    /// With a job asked of each area.
+    fn begun(plan: &Plan, request: Request) -> Peer {
         let mut peer = Peer::of(plan);
-        for area in 0..8 {
-            peer.manager.job(operation, area, 0, length);
-        }
+        loops::begin(&mut peer.manager, request);
         peer
     }
+}
 
-    /// The sum over all calls, made on the areas in turn.
-    fn sum(&self, mut call: impl FnMut(&mut Manager, u32) -> u64) -> u64 {
-        let mut manager = self.manager.clone();
-        (0..CALLS).map(|number| call(&mut manager, black_box(number % 8))).sum()
-    }
+fn request(operation: Operation, length: u32) -> Request {
+    Request { job_type: JobType::Operation(operation), length }
 }
 
 /// Calls on the plan with most records. The model asks no question 9: its managers are all sound.
 fn calls() {
-    let plan = largest();
-    let peer = Peer::of(&plan);
-    let mut model = || peer.sum(|manager, area| manager.cancel(area).into());
+    let peer = Peer::of(&largest());
+    let mut model = || loops::cancels(&mut peer.manager.clone(), CALLS);
     let mut proved = || timing::cancels(&peer.bytes, CALLS);
     report("cancel, refused by question 17", race(CALLS, &mut model, &mut proved));
-    job("write, refused by question 11", Operation::Write, 16);
-    job("write, refused by question 12", Operation::Write, 0);
-    job("write, refused by question 14", Operation::Write, 20);
+    job("write, refused by question 11", &peer, request(Operation::Write, 16));
+    job("write, refused by question 12", &peer, request(Operation::Write, 0));
+    job("write, refused by question 14", &peer, request(Operation::Write, 20));
     for operation in Operation::ALL {
-        job_and_cancel(operation);
+        job_and_cancel(&peer, operation);
     }
-    info(&plan);
+    info();
 }
 
 /// Of all these jobs at most the first on each area is accepted.
-fn job(name: &str, operation: Operation, length: u32) {
-    let peer = Peer::of(&largest());
-    let mut model = || peer.sum(|manager, area| manager.job(operation, area, 0, length).into());
-    let mut proved = || timing::jobs(&peer.bytes, operation.number(), length, CALLS);
+fn job(name: &str, peer: &Peer, request: Request) {
+    let mut model = || loops::jobs(&mut peer.manager.clone(), request, CALLS);
+    let mut proved = || timing::jobs(&peer.bytes, request, CALLS);
     report(name, race(CALLS, &mut model, &mut proved));
 }
 
-fn job_and_cancel(operation: Operation) {
-    let peer = Peer::of(&largest());
-    let mut model = || {
-        peer.sum(|manager, area| {
-            let number = manager.job(operation, area, 0, 16);
-            u64::from(number) + u64::from(manager.cancel(area))
-        })
-    };
-    let mut proved = || timing::jobs_and_cancels(&peer.bytes, operation.number(), 16, CALLS);
+fn job_and_cancel(peer: &Peer, operation: Operation) {
+    let request = request(operation, 16);
+    let mut model = || loops::jobs_and_cancels(&mut peer.manager.clone(), request, CALLS);
+    let mut proved = || timing::jobs_and_cancels(&peer.bytes, request, CALLS);
     assert_eq!(model(), 0, "all are accepted");
     let name = format!("{operation:?} accepted, and its cancel");
     report(&name, race(CALLS, &mut model, &mut proved));
 }
 
-fn info(plan: &Plan) {
-    let peer = Peer::busy(plan, Operation::Write, 16);
-    let length = |info: JobInfo| u64::from(info.length);
-    let mut model = || peer.sum(|manager, area| manager.job_info(area).map_or(0, length));
-    let mut proved = || timing::infos(&peer.bytes, Operation::Write.number(), 16, CALLS);
+fn info() {
+    let request = request(Operation::Write, 16);
+    let peer = Peer::begun(&largest(), request);
+    let mut model = || loops::infos(&mut peer.manager.clone(), CALLS);
+    let mut proved = || timing::infos(&peer.bytes, request, CALLS);
     report("job info", race(CALLS, &mut model, &mut proved));
+}
+
+/// Fewer than the bytes of a job, so that no job ends.
+const ROUNDS: u32 = 8_000;
+const JOB_LENGTH: u32 = 8_192;
+const STORE_LENGTH: usize = 65_536;
+
+/// Rounds on the plan with most records, all four devices busy.
+fn rounds() {
+    let plan = enduring(4, 8, 32);
+    report("round, 4 writes pending", round(&plan, Operation::Write, Answer::Pending));
+    for operation in Operation::ALL {
+        let name = format!("round, 4 requests of {operation:?} done");
+        report(&name, round(&plan, operation, Answer::Done));
+    }
+}
+
+/// Image and store are all 255, so that no compare or blank check finds a difference.
+fn round(plan: &Plan, operation: Operation, answer: Answer) -> Race {
+    let request = request(operation, JOB_LENGTH);
+    let peer = Peer::begun(plan, request);
+    let image_length = usize::try_from(plan.device_sum()).expect("an image");
+    let memory = || (vec![255; image_length], vec![255; STORE_LENGTH]);
+    let (mut image, mut store) = memory();
+    let mut model = || {
+        let mut manager = peer.manager.clone();
+        loops::rounds(&mut manager, answer, ROUNDS, &mut image, &mut store)
+    };
+    let (mut image, mut store) = memory();
+    let mut proved =
+        || timing::rounds(&peer.bytes, request, answer, ROUNDS, &mut image, &mut store);
+    race(ROUNDS, &mut model, &mut proved)
+}
+
+/// How the cost of a round grows with the records of the plan, from one of each kind on.
+fn growth() {
+    let counts = [
+        [1, 1, 1],
+        [1, 1, 8],
+        [1, 1, 32],
+        [1, 2, 32],
+        [1, 4, 32],
+        [1, 8, 32],
+        [2, 8, 32],
+        [3, 8, 32],
+        [4, 8, 32],
+    ];
+    for [devices, areas, sub_areas] in counts {
+        let name = format!("round, {devices} devices, {areas} areas, {sub_areas} sub-areas");
+        report(&name, round(&enduring(devices, areas, sub_areas), Operation::Read, Answer::Done));
+    }
 }

@@ -5,7 +5,7 @@ use super::low_byte;
 use crate::plan::{Area, Device, Plan, SubArea, WINDOW_LIMIT};
 
 /// Bytes of each sub-area.
-const SIZE: u32 = 65_536;
+const SIZE: u32 = 8_192;
 
 /// An enduring plan of these counts, spread evenly.
 pub fn enduring(devices: u32, areas: u32, sub_areas: u32) -> Plan {
