@@ -287,7 +287,9 @@ fn reason(line: &[u8]) -> Reason {
 
 /// Neither a number nor an answer of a round.
 fn is_word(field: &[u8], is_round: bool) -> bool {
-    !field.iter().all(u8::is_ascii_digit) && !(is_round && matches!(field, b"p" | b"d"))
+    let is_number = field.iter().all(u8::is_ascii_digit);
+    let is_answer = is_round && matches!(field, b"p" | b"d");
+    !is_number && !is_answer
 }
 
 fn fields(line: &[u8]) -> impl Iterator<Item = &[u8]> {

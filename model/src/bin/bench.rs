@@ -10,12 +10,24 @@ use model::proved::{self, timing};
 use model::race::{race, Race};
 use std::hint::black_box;
 
+#[cfg(feature = "session")]
+use model::{
+    plans::{full, plan_t},
+    proved::session::Library,
+    random::Random,
+    script::{Lending, Script},
+    sessions::lines,
+    subject::{play, Model, Outcome},
+};
+
 fn main() {
     println!("{:<44} {:>12} {:>12} {:>8}", "", "model ns", "proved ns", "ratio");
     loads();
     calls();
     rounds();
     growth();
+    #[cfg(feature = "session")]
+    sessions();
 }
 
 fn report(name: &str, race: Race) {
@@ -166,5 +178,31 @@ fn growth() {
     for [devices, areas, sub_areas] in counts {
         let name = format!("round, {devices} devices, {areas} areas, {sub_areas} sub-areas");
         report(&name, round(&enduring(devices, areas, sub_areas), Operation::Read, Answer::Done));
+    }
+}
+
+/// The bench's sessions as the tests draw them, but for damaged lines of many bytes.
+#[cfg(feature = "session")]
+fn sessions() {
+    const LINES: usize = 20_000;
+    let mut random = Random::new(1);
+    for (name, plan) in [("plan T", plan_t()), ("most records", full(&mut random))] {
+        let mut lines: Vec<_> = lines(&mut random, &plan, LINES);
+        lines.retain(|line| line.text.len() < 100);
+        let script = Script {
+            plan: encode(&plan),
+            lending: Lending::bench(&encode(&plan)),
+            lines: lines.into_iter().map(|line| line.text).collect(),
+            is_last_ended: true,
+        };
+        let count = u32::try_from(script.lines.len()).expect("so many lines");
+        let bytes = |outcome: Outcome| outcome.output.iter().map(|byte| u64::from(*byte)).sum();
+        let race = race(count, &mut || bytes(play(&mut Model, &script)), &mut || {
+            bytes(play(&mut Library, &script))
+        });
+        report(&format!("line of a session, {name}"), race);
+        let per_second = |nanoseconds: f64| 1e9 / nanoseconds;
+        let (model, proved) = (per_second(race.model), per_second(race.proved));
+        println!("{:<44} {model:>12.0} {proved:>12.0}", "    lines per second");
     }
 }

@@ -25,7 +25,7 @@ extern "C" {
 }
 
 /// More than any line of the output takes.
-const ROOM_OF_A_LINE: usize = 256;
+const ROOM_OF_A_LINE: usize = 512;
 
 /// The proved library as a subject.
 pub struct Library;

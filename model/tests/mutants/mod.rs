@@ -5,9 +5,12 @@ use model::plan::{self, Plan};
 use model::plans::encode;
 use model::subject::{Model, Subject};
 
+/// From plan, input, image and store to the output.
+type WrongSession = fn(&[u8], &[u8], &mut [u8], &mut [u8]) -> Vec<u8>;
+
 pub struct Mutant {
     pub name: &'static str,
-    session: fn(&[u8], &[u8], &mut [u8], &mut [u8]) -> Vec<u8>,
+    session: WrongSession,
 }
 
 impl Subject for Mutant {
