@@ -6,7 +6,7 @@ ghost use Rattle.manager.specs.Calls.{jobNumberOf, afterJob};
 ghost use Rattle.manager.specs.Load.{loadedManager};
 ghost use Rattle.timing.specs.Repeated.{taskOf, cancelTotal, jobTotal, pairTotal, busyManager, infoTotal};
 ghost use Rattle.memory.specs.Numbers.{admissionNumber};
-ghost use Rattle.rounds.specs.Effects.{memoryOf};
+ghost use Rattle.requests.specs.Effects.{memoryOf};
 ghost use Rattle.timing.specs.Rounds.{answerOf, answersOf, processedTotal, roundsTotal, benchAfter};
 use manager::Answered;
 use manager::Manager;

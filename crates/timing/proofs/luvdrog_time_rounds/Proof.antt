@@ -3,7 +3,7 @@ use mathlib.Core.Path.{_≡_, refl, ap, ap₂, _∙_}
 use native.Mathlib.Omega.{arith}
 use borrow.Author.Needs.{needs}
 use lib.ListN as lists
-use Rattle.rounds.specs.Effects.{memoryOf}
+use Rattle.requests.specs.Effects.{memoryOf}
 use Rattle.timing.specs.Rounds.{rounds, roundTotal, rounds-more, total-more-rounds, bench-is, benchOf, benchAfter}
 use Rattle.timing.proofs.luvdrog_time_rounds.Statement.{statement}
 use Rattle.timing.proofs.luvdrog_time_rounds.Tie as tie
