@@ -25,7 +25,8 @@ use state::JobInfo;
 use state::MemoryInfo;
 use state::RequestInfo;
 
-fn no_request() -> RequestInfo
+// No request: all zeros.
+pub fn no_request() -> RequestInfo
     ensures { λ r. ⌜ r ≡ noRequest ⌝ }
 {
     RequestInfo {
@@ -92,6 +93,7 @@ pub fn job_info(plan: Plan, areas: [Area; 8], devices: [Device; 4], area: usize)
     }
 }
 
+// No sub-area: all zeros.
 pub fn no_memory() -> MemoryInfo
     ensures { λ r. ⌜ r ≡ noMemoryInfo ⌝ }
 {

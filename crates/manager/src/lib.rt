@@ -3,17 +3,37 @@ ghost use mathlib.Core.Path.{_≡_};
 ghost use Rattle.memory.specs.Numbers.{admissionNumber};
 ghost use Rattle.plan.specs.Questions.{loadNumber};
 ghost use Prim.Native.Nat.{_<_};
-ghost use Rattle.manager.specs.Calls.{withArea, cancelNumberOf, afterCancel};
+ghost use Rattle.memory.specs.declared.JobType.the-variants.{Write, Read, Compare, Erase, BlankCheck, Lock};
+ghost use Rattle.manager.specs.Calls.{withArea, withDevice, jobNumberOf, afterJob, releaseNumberOf, afterRelease, cancelNumberOf, afterCancel, infoNumberOf, statusOf, resultOf, processedOf, noJobInfo, infoOf, memoryInfoNumberOf, memoryOfArea};
+ghost use Rattle.machine.specs.Sound.{jobIn};
 ghost use Rattle.rounds.specs.Close.{waitsIn};
 ghost use Rattle.manager.specs.Load.{freshManager, loadedManager};
+use admission::range_device;
+use machine::devices::begun_job;
 use machine::devices::cancelled_job;
+use machine::queries::job_info;
+use machine::queries::memory_info;
+use machine::queries::no_memory;
+use machine::queries::no_request;
 use machine::questions::cancel_admission;
+use machine::questions::info_admission;
+use machine::questions::job_admission;
+use machine::questions::memory_admission;
+use machine::questions::release_admission;
 use memory::Admission;
+use memory::JobResult;
+use memory::JobType;
+use memory::LogicalAddress;
+use memory::Task;
 use plan::load::load_plan;
 use plan::records::Plan;
 use state::Area;
 use state::Device;
+use state::DeviceState;
 use state::Job;
+use state::JobInfo;
+use state::MemoryInfo;
+use state::Waits;
 
 // What the plan fixes, and what moves.
 pub struct Manager {
@@ -32,6 +52,50 @@ pub struct Loaded {
 pub struct Answered {
     pub answer: Admission,
     pub manager: Manager,
+}
+
+// The answers to queries. Where one was refused, what it asked for is 0.
+pub struct StatusAnswer {
+    pub answer: Admission,
+    pub status: u8,
+}
+
+pub struct ResultAnswer {
+    pub answer: Admission,
+    pub result: JobResult,
+}
+
+pub struct LengthAnswer {
+    pub answer: Admission,
+    pub processed: u32,
+}
+
+pub struct JobInfoAnswer {
+    pub answer: Admission,
+    pub info: JobInfo,
+}
+
+pub struct MemoryInfoAnswer {
+    pub answer: Admission,
+    pub info: MemoryInfo,
+}
+
+// The info of no job: all zeros.
+fn no_job_info() -> JobInfo
+    ensures { λ r. ⌜ r ≡ noJobInfo ⌝ }
+{
+    let fresh = Area::fresh();
+    let job = fresh.job;
+    let task = job.task;
+    let waits = fresh.waits;
+    let request = no_request();
+    JobInfo {
+        task,
+        result: JobResult::OK,
+        processed: 0,
+        waits,
+        request,
+    }
 }
 
 impl Manager {
@@ -58,20 +122,170 @@ impl Manager {
         Loaded { answer, manager }
     }
 
-    fn with_job(self, area: usize, job: Job) -> Manager
+    fn with_area(self, area: usize, job: Job, waits: Waits) -> Manager
         requires { ⌜ area < 8 ⌝ }
-        ensures { λ r. ⌜ r ≡ withArea area job (waitsIn (self .areas) area) self ⌝ }
+        ensures { λ r. ⌜ r ≡ withArea area job waits self ⌝ }
     {
         let plan = self.plan;
         let devices = self.devices;
         let mut areas = self.areas;
-        let entry = areas[area];
-        let waits = entry.waits;
         areas[area] = Area { job, waits };
         Manager {
             plan,
             areas,
             devices,
+        }
+    }
+
+    fn with_job(self, area: usize, job: Job) -> Manager
+        requires { ⌜ area < 8 ⌝ }
+        ensures { λ r. ⌜ r ≡ withArea area job (waitsIn (self .areas) area) self ⌝ }
+    {
+        let areas = self.areas;
+        let entry = areas[area];
+        let waits = entry.waits;
+        self.with_area(area, job, waits)
+    }
+
+    fn with_device(self, device: usize, state: DeviceState) -> Manager
+        requires { ⌜ device < 4 ⌝ }
+        ensures { λ r. ⌜ r ≡ withDevice device state self ⌝ }
+    {
+        let plan = self.plan;
+        let areas = self.areas;
+        let mut devices = self.devices;
+        devices[device] = Device { state };
+        Manager {
+            plan,
+            areas,
+            devices,
+        }
+    }
+
+    fn job_of(self, area: usize) -> Job
+        requires { ⌜ area < 8 ⌝ }
+        ensures { λ r. ⌜ r ≡ jobIn (self .areas) area ⌝ }
+    {
+        let areas = self.areas;
+        let entry = areas[area];
+        entry.job
+    }
+
+    // One of the five jobs, or a lock request: accepted, it is pending with nothing processed and all counts 0.
+    fn submit(self, area: usize, task: Task) -> Answered
+        ensures { λ r. ⌜ admissionNumber (r .answer) ≡ jobNumberOf self area task ⌝ }
+        ensures { λ r. ⌜ r .manager ≡ afterJob self area task ⌝ }
+    {
+        let plan = self.plan;
+        let areas = self.areas;
+        let devices = self.devices;
+        let answer = job_admission(plan, areas, devices, area, task);
+        match answer {
+            Admission::Refused(_) => Answered {
+                answer,
+                manager: self,
+            },
+            Admission::Accepted => {
+                let job = begun_job(plan, areas, area, task);
+                let fresh = Area::fresh();
+                let waits = fresh.waits;
+                let manager = self.with_area(area, job, waits);
+                Answered { answer, manager }
+            }
+        }
+    }
+
+    pub fn write(self, area: usize, address: LogicalAddress, length: u32) -> Answered
+        ensures { λ r. ⌜ admissionNumber (r .answer) ≡ jobNumberOf self area (record { kind = Write; address = address; length = length }) ⌝ }
+        ensures { λ r. ⌜ r .manager ≡ afterJob self area (record { kind = Write; address = address; length = length }) ⌝ }
+    {
+        let task = Task {
+            kind: JobType::Write,
+            address,
+            length,
+        };
+        self.submit(area, task)
+    }
+
+    pub fn read(self, area: usize, address: LogicalAddress, length: u32) -> Answered
+        ensures { λ r. ⌜ admissionNumber (r .answer) ≡ jobNumberOf self area (record { kind = Read; address = address; length = length }) ⌝ }
+        ensures { λ r. ⌜ r .manager ≡ afterJob self area (record { kind = Read; address = address; length = length }) ⌝ }
+    {
+        let task = Task {
+            kind: JobType::Read,
+            address,
+            length,
+        };
+        self.submit(area, task)
+    }
+
+    pub fn compare(self, area: usize, address: LogicalAddress, length: u32) -> Answered
+        ensures { λ r. ⌜ admissionNumber (r .answer) ≡ jobNumberOf self area (record { kind = Compare; address = address; length = length }) ⌝ }
+        ensures { λ r. ⌜ r .manager ≡ afterJob self area (record { kind = Compare; address = address; length = length }) ⌝ }
+    {
+        let task = Task {
+            kind: JobType::Compare,
+            address,
+            length,
+        };
+        self.submit(area, task)
+    }
+
+    pub fn erase(self, area: usize, address: LogicalAddress, length: u32) -> Answered
+        ensures { λ r. ⌜ admissionNumber (r .answer) ≡ jobNumberOf self area (record { kind = Erase; address = address; length = length }) ⌝ }
+        ensures { λ r. ⌜ r .manager ≡ afterJob self area (record { kind = Erase; address = address; length = length }) ⌝ }
+    {
+        let task = Task {
+            kind: JobType::Erase,
+            address,
+            length,
+        };
+        self.submit(area, task)
+    }
+
+    pub fn blank_check(self, area: usize, address: LogicalAddress, length: u32) -> Answered
+        ensures { λ r. ⌜ admissionNumber (r .answer) ≡ jobNumberOf self area (record { kind = BlankCheck; address = address; length = length }) ⌝ }
+        ensures { λ r. ⌜ r .manager ≡ afterJob self area (record { kind = BlankCheck; address = address; length = length }) ⌝ }
+    {
+        let task = Task {
+            kind: JobType::BlankCheck,
+            address,
+            length,
+        };
+        self.submit(area, task)
+    }
+
+    // A lock request: it locks the device of its range for the area.
+    pub fn lock(self, area: usize, address: LogicalAddress, length: u32) -> Answered
+        ensures { λ r. ⌜ admissionNumber (r .answer) ≡ jobNumberOf self area (record { kind = Lock; address = address; length = length }) ⌝ }
+        ensures { λ r. ⌜ r .manager ≡ afterJob self area (record { kind = Lock; address = address; length = length }) ⌝ }
+    {
+        let task = Task {
+            kind: JobType::Lock,
+            address,
+            length,
+        };
+        self.submit(area, task)
+    }
+
+    pub fn release(self, area: usize, address: LogicalAddress, length: u32) -> Answered
+        ensures { λ r. ⌜ admissionNumber (r .answer) ≡ releaseNumberOf self area address length ⌝ }
+        ensures { λ r. ⌜ r .manager ≡ afterRelease self area address length ⌝ }
+    {
+        let plan = self.plan;
+        let areas = self.areas;
+        let devices = self.devices;
+        let answer = release_admission(plan, areas, devices, area, address, length);
+        match answer {
+            Admission::Refused(_) => Answered {
+                answer,
+                manager: self,
+            },
+            Admission::Accepted => {
+                let device = range_device(plan, area, address, length);
+                let manager = self.with_device(device as usize, DeviceState::Free);
+                Answered { answer, manager }
+            }
         }
     }
 
@@ -92,6 +306,112 @@ impl Manager {
                 let job = cancelled_job(plan, areas, devices, area);
                 let manager = self.with_job(area, job);
                 Answered { answer, manager }
+            }
+        }
+    }
+
+    fn query_admission(self, area: usize) -> Admission
+        ensures { λ r. ⌜ admissionNumber r ≡ infoNumberOf self area ⌝ }
+    {
+        let plan = self.plan;
+        let areas = self.areas;
+        let devices = self.devices;
+        info_admission(plan, areas, devices, area)
+    }
+
+    pub fn status(self, area: usize) -> StatusAnswer
+        ensures { λ r. ⌜ admissionNumber (r .answer) ≡ infoNumberOf self area ⌝ }
+        ensures { λ r. ⌜ r .status ≡ statusOf self area ⌝ }
+    {
+        let answer = self.query_admission(area);
+        match answer {
+            Admission::Refused(_) => StatusAnswer { answer, status: 0 },
+            Admission::Accepted => {
+                let job = self.job_of(area);
+                let status = job.status;
+                let number = status.number();
+                StatusAnswer {
+                    answer,
+                    status: number,
+                }
+            }
+        }
+    }
+
+    pub fn result(self, area: usize) -> ResultAnswer
+        ensures { λ r. ⌜ admissionNumber (r .answer) ≡ infoNumberOf self area ⌝ }
+        ensures { λ r. ⌜ r .result ≡ resultOf self area ⌝ }
+    {
+        let answer = self.query_admission(area);
+        match answer {
+            Admission::Refused(_) => ResultAnswer {
+                answer,
+                result: JobResult::OK,
+            },
+            Admission::Accepted => {
+                let job = self.job_of(area);
+                let result = job.result;
+                ResultAnswer { answer, result }
+            }
+        }
+    }
+
+    pub fn processed(self, area: usize) -> LengthAnswer
+        ensures { λ r. ⌜ admissionNumber (r .answer) ≡ infoNumberOf self area ⌝ }
+        ensures { λ r. ⌜ r .processed ≡ processedOf self area ⌝ }
+    {
+        let answer = self.query_admission(area);
+        match answer {
+            Admission::Refused(_) => LengthAnswer {
+                answer,
+                processed: 0,
+            },
+            Admission::Accepted => {
+                let job = self.job_of(area);
+                LengthAnswer {
+                    answer,
+                    processed: job.processed,
+                }
+            }
+        }
+    }
+
+    pub fn job_info(self, area: usize) -> JobInfoAnswer
+        ensures { λ r. ⌜ admissionNumber (r .answer) ≡ infoNumberOf self area ⌝ }
+        ensures { λ r. ⌜ r .info ≡ infoOf self area ⌝ }
+    {
+        let answer = self.query_admission(area);
+        match answer {
+            Admission::Refused(_) => {
+                let info = no_job_info();
+                JobInfoAnswer { answer, info }
+            }
+            Admission::Accepted => {
+                let plan = self.plan;
+                let areas = self.areas;
+                let devices = self.devices;
+                let info = job_info(plan, areas, devices, area);
+                JobInfoAnswer { answer, info }
+            }
+        }
+    }
+
+    pub fn memory_info(self, area: usize, address: LogicalAddress) -> MemoryInfoAnswer
+        ensures { λ r. ⌜ admissionNumber (r .answer) ≡ memoryInfoNumberOf self area address ⌝ }
+        ensures { λ r. ⌜ r .info ≡ memoryOfArea self area address ⌝ }
+    {
+        let plan = self.plan;
+        let areas = self.areas;
+        let devices = self.devices;
+        let answer = memory_admission(plan, areas, devices, area, address);
+        match answer {
+            Admission::Refused(_) => {
+                let info = no_memory();
+                MemoryInfoAnswer { answer, info }
+            }
+            Admission::Accepted => {
+                let info = memory_info(plan, area, address);
+                MemoryInfoAnswer { answer, info }
             }
         }
     }
