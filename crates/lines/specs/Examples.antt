@@ -4,19 +4,19 @@ use mathlib.Core.List.{List, [], _∷_}
 use lib.ListN.{replicate}
 use Rattle.arith.specs.Bounded.{every}
 use Rattle.memory.specs.declared.DeviceAnswer.the-variants.{Pending, Done, Failed}
-use Rattle.memory.specs.declared.JobType.the-variants.{Write, Read, Compare, Erase, BlankCheck, Lock}
-use Rattle.lines.specs.Fields.{fieldsOf}
-use Rattle.lines.specs.Lines.{onlyNumber, targetOf, answerOf, roundLine, kindOf, jobLine, lineOf}
+use Rattle.lines.specs.Fields.{cutAt}
+use Rattle.lines.specs.Lines.{onlyNumber, targetOf, answerOf, roundLine, kindOf, lineOf}
 use Rattle.lines.specs.Number.{valueOf, numberOf}
-use Rattle.lines.specs.declared.Line.the-variants.{Unreadable, Job, Release, Cancel, Info, Round}
+use Rattle.lines.specs.declared.Line.the-variants.{Unreadable, Call, Info, Round}
+use Rattle.lines.specs.declared.LineCall.the-variants as Calls
 
 pub readable :
     -- "1 0 4 12"
-    (lineOf 1 (49 ∷ 32 ∷ 48 ∷ 32 ∷ 52 ∷ 32 ∷ 49 ∷ 50 ∷ []) ≡ Job Write 0 4 12)
+    (lineOf 1 (49 ∷ 32 ∷ 48 ∷ 32 ∷ 52 ∷ 32 ∷ 49 ∷ 50 ∷ []) ≡ Call (Calls.Write (record { area = 0; address = 4; length = 12 })))
     -- "0 p"
     × (lineOf 1 (48 ∷ 32 ∷ 112 ∷ []) ≡ Round Pending Pending Pending Pending)
     -- "1 1 256 4"
-    × (lineOf 1 (49 ∷ 32 ∷ 49 ∷ 32 ∷ 50 ∷ 53 ∷ 54 ∷ 32 ∷ 52 ∷ []) ≡ Job Write 1 256 4)
+    × (lineOf 1 (49 ∷ 32 ∷ 49 ∷ 32 ∷ 50 ∷ 53 ∷ 54 ∷ 32 ∷ 52 ∷ []) ≡ Call (Calls.Write (record { area = 1; address = 256; length = 4 })))
     -- "0 d"
     × (lineOf 1 (48 ∷ 32 ∷ 100 ∷ []) ≡ Round Done Pending Pending Pending)
     -- "0 0"
@@ -26,24 +26,24 @@ pub readable :
     -- "10 1"
     × (lineOf 1 (49 ∷ 48 ∷ 32 ∷ 49 ∷ []) ≡ Info 1)
     -- "9 1"
-    × (lineOf 1 (57 ∷ 32 ∷ 49 ∷ []) ≡ Cancel 1)
+    × (lineOf 1 (57 ∷ 32 ∷ 49 ∷ []) ≡ Call (Calls.Cancel 1))
     -- "8 0 4 12"
-    × (lineOf 1 (56 ∷ 32 ∷ 48 ∷ 32 ∷ 52 ∷ 32 ∷ 49 ∷ 50 ∷ []) ≡ Release 0 4 12)
+    × (lineOf 1 (56 ∷ 32 ∷ 48 ∷ 32 ∷ 52 ∷ 32 ∷ 49 ∷ 50 ∷ []) ≡ Call (Calls.Release (record { area = 0; address = 4; length = 12 })))
     -- "2 0 3 13"
-    × (lineOf 1 (50 ∷ 32 ∷ 48 ∷ 32 ∷ 51 ∷ 32 ∷ 49 ∷ 51 ∷ []) ≡ Job Read 0 3 13)
+    × (lineOf 1 (50 ∷ 32 ∷ 48 ∷ 32 ∷ 51 ∷ 32 ∷ 49 ∷ 51 ∷ []) ≡ Call (Calls.Read (record { area = 0; address = 3; length = 13 })))
     -- "3 0 3 13"
-    × (lineOf 1 (51 ∷ 32 ∷ 48 ∷ 32 ∷ 51 ∷ 32 ∷ 49 ∷ 51 ∷ []) ≡ Job Compare 0 3 13)
+    × (lineOf 1 (51 ∷ 32 ∷ 48 ∷ 32 ∷ 51 ∷ 32 ∷ 49 ∷ 51 ∷ []) ≡ Call (Calls.Compare (record { area = 0; address = 3; length = 13 })))
     -- "4 0 0 32"
-    × (lineOf 1 (52 ∷ 32 ∷ 48 ∷ 32 ∷ 48 ∷ 32 ∷ 51 ∷ 50 ∷ []) ≡ Job Erase 0 0 32)
+    × (lineOf 1 (52 ∷ 32 ∷ 48 ∷ 32 ∷ 48 ∷ 32 ∷ 51 ∷ 50 ∷ []) ≡ Call (Calls.Erase (record { area = 0; address = 0; length = 32 })))
     -- "6 0 0 32"
-    × (lineOf 1 (54 ∷ 32 ∷ 48 ∷ 32 ∷ 48 ∷ 32 ∷ 51 ∷ 50 ∷ []) ≡ Job BlankCheck 0 0 32)
+    × (lineOf 1 (54 ∷ 32 ∷ 48 ∷ 32 ∷ 48 ∷ 32 ∷ 51 ∷ 50 ∷ []) ≡ Call (Calls.BlankCheck (record { area = 0; address = 0; length = 32 })))
     -- "7 0 0 32"
-    × (lineOf 1 (55 ∷ 32 ∷ 48 ∷ 32 ∷ 48 ∷ 32 ∷ 51 ∷ 50 ∷ []) ≡ Job Lock 0 0 32)
+    × (lineOf 1 (55 ∷ 32 ∷ 48 ∷ 32 ∷ 48 ∷ 32 ∷ 51 ∷ 50 ∷ []) ≡ Call (Calls.Lock (record { area = 0; address = 0; length = 32 })))
     -- "007 1 00256 4294967295"
-    × (lineOf 1 (48 ∷ 48 ∷ 55 ∷ 32 ∷ 49 ∷ 32 ∷ 48 ∷ 48 ∷ 50 ∷ 53 ∷ 54 ∷ 32 ∷ 52 ∷ 50 ∷ 57 ∷ 52 ∷ 57 ∷ 54 ∷ 55 ∷ 50 ∷ 57 ∷ 53 ∷ []) ≡ Job Lock 1 256 4294967295)
+    × (lineOf 1 (48 ∷ 48 ∷ 55 ∷ 32 ∷ 49 ∷ 32 ∷ 48 ∷ 48 ∷ 50 ∷ 53 ∷ 54 ∷ 32 ∷ 52 ∷ 50 ∷ 57 ∷ 52 ∷ 57 ∷ 54 ∷ 55 ∷ 50 ∷ 57 ∷ 53 ∷ []) ≡ Call (Calls.Lock (record { area = 1; address = 256; length = 4294967295 })))
     -- "0 p d 4294967295 7"
     × (lineOf 4 (48 ∷ 32 ∷ 112 ∷ 32 ∷ 100 ∷ 32 ∷ 52 ∷ 50 ∷ 57 ∷ 52 ∷ 57 ∷ 54 ∷ 55 ∷ 50 ∷ 57 ∷ 53 ∷ 32 ∷ 55 ∷ []) ≡ Round Pending Done (Failed 4294967295) (Failed 7))
-unfolding every fieldsOf onlyNumber targetOf answerOf roundLine kindOf jobLine lineOf valueOf numberOf
+unfolding every cutAt onlyNumber targetOf answerOf roundLine kindOf lineOf valueOf numberOf
 readable = (refl, refl, refl, refl, refl, refl, refl, refl, refl, refl, refl, refl, refl, refl, refl, refl)
 
 pub unreadable :
@@ -87,10 +87,10 @@ pub unreadable :
     × (lineOf 1 (48 ∷ 32 ∷ 112 ∷ 112 ∷ []) ≡ Unreadable)
     -- "0 4294967296": bytes above the limit
     × (lineOf 1 (48 ∷ 32 ∷ 52 ∷ 50 ∷ 57 ∷ 52 ∷ 57 ∷ 54 ∷ 55 ∷ 50 ∷ 57 ∷ 54 ∷ []) ≡ Unreadable)
-unfolding every fieldsOf onlyNumber targetOf answerOf roundLine kindOf jobLine lineOf valueOf numberOf
+unfolding every cutAt onlyNumber targetOf answerOf roundLine kindOf lineOf valueOf numberOf
 unreadable = (refl, refl, refl, refl, refl, refl, refl, refl, refl, refl, refl, refl, refl, refl, refl, refl, refl, refl, refl, refl)
 
 -- 4,097 bytes are too long
 pub too-long : lineOf 1 (57 ∷ 32 ∷ replicate 4095 48) ≡ Unreadable
-unfolding every fieldsOf onlyNumber targetOf answerOf roundLine kindOf jobLine lineOf valueOf numberOf
+unfolding every cutAt onlyNumber targetOf answerOf roundLine kindOf lineOf valueOf numberOf
 too-long = refl

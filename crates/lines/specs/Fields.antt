@@ -17,14 +17,21 @@ abbrev pub inFront : List ℕ → List (List ℕ) → List (List ℕ)
 inFront w [] = w ∷ []
 inFront w (f ∷ fs) = (w ++ f) ∷ fs
 
--- a line cut at its spaces (32). Two spaces in a row, one in front or one at the end leave an empty field
-unfoldable pub fieldsOf : List ℕ → List (List ℕ)
-fieldsOf [] = [] ∷ []
-fieldsOf (b ∷ l) = pick (eqb b 32) ([] ∷ fieldsOf l) (inFront (b ∷ []) (fieldsOf l))
+-- bytes cut at each byte c. Two of them in a row, one in front or one at the end leave an empty part
+unfoldable pub cutAt : ℕ → List ℕ → List (List ℕ)
+cutAt c [] = [] ∷ []
+cutAt c (b ∷ l) = pick (eqb b c) ([] ∷ cutAt c l) (inFront (b ∷ []) (cutAt c l))
 
--- the fields from byte i on; none where i is past the line's end
-unfoldable pub fieldsFrom : List ℕ → ℕ → List (List ℕ)
-fieldsFrom l i = pick (leb i (length l)) (fieldsOf (drop i l)) []
+-- the parts from byte i on; none where i is past the end
+unfoldable pub cutFrom : ℕ → List ℕ → ℕ → List (List ℕ)
+cutFrom c l i = pick (leb i (length l)) (cutAt c (drop i l)) []
+
+-- a line's fields; a space is 32
+abbrev pub fieldsOf : List ℕ → List (List ℕ)
+fieldsOf l = cutAt 32 l
+
+abbrev pub fieldsFrom : List ℕ → ℕ → List (List ℕ)
+fieldsFrom l i = cutFrom 32 l i
 
 abbrev pub rest : List (List ℕ) → List (List ℕ)
 rest [] = []
@@ -43,37 +50,37 @@ pub in-front-none : (fs : List (List ℕ)) → isLast fs ≡ false → fs ≡ in
 in-front-none [] e = absurd (true≢false e)
 in-front-none (f ∷ fs) e = refl
 
--- a line has a field
-pub some-field : (l : List ℕ) → isLast (fieldsOf l) ≡ false
-unfolding fieldsOf
-some-field [] = refl
-some-field (b ∷ l) = by-eqb b 32 (λ e _. rw e) (λ e _. rw e (front (fieldsOf l)))
+-- there is a part
+pub some-field : (c : ℕ) (l : List ℕ) → isLast (cutAt c l) ≡ false
+unfolding cutAt
+some-field c [] = refl
+some-field c (b ∷ l) = by-eqb b c (λ e _. rw e) (λ e _. rw e (front (cutAt c l)))
   where
     front : (fs : List (List ℕ)) → isLast (inFront (b ∷ []) fs) ≡ false
     front [] = refl
     front (f ∷ fs) = refl
 
-module _ (l : List ℕ) where
-  pub fields-all : fieldsFrom l 0 ≡ fieldsOf l
-  unfolding fieldsFrom
+-- the bytes from byte `from` to byte i
+abbrev pub word : List ℕ → ℕ → ℕ → List ℕ
+word l from i = take (i - from) (drop from l)
+
+module _ (c : ℕ) (l : List ℕ) where
+  pub fields-all : cutFrom c l 0 ≡ cutAt c l
+  unfolding cutFrom
   fields-all = rw (le-leb 0 (length l) (omega arith))
 
-  pub fields-past : (i : ℕ) → length l < i → fieldsFrom l i ≡ []
-  unfolding fieldsFrom
+  pub fields-past : (i : ℕ) → length l < i → cutFrom c l i ≡ []
+  unfolding cutFrom
   fields-past i h = rw (lt-leb _ _ h)
 
-  pub more-fields : (i : ℕ) → i ≤ length l → isLast (fieldsFrom l i) ≡ false
-  unfolding fieldsFrom
-  more-fields i h = rw (le-leb _ _ h) (some-field (drop i l))
+  pub more-fields : (i : ℕ) → i ≤ length l → isLast (cutFrom c l i) ≡ false
+  unfolding cutFrom
+  more-fields i h = rw (le-leb _ _ h) (some-field c (drop i l))
 
-  -- the bytes from byte `from` to byte i, none of them a space
-  abbrev pub word : ℕ → ℕ → List ℕ
-  word from i = take (i - from) (drop from l)
+  pub word-none : (from : ℕ) → from ≤ length l → cutFrom c l from ≡ inFront (word l from from) (cutFrom c l from)
+  word-none from h = rw sub-self (in-front-none (cutFrom c l from) (more-fields from h))
 
-  pub word-none : (from : ℕ) → from ≤ length l → fieldsFrom l from ≡ inFront (word from from) (fieldsFrom l from)
-  word-none from h = rw sub-self (in-front-none (fieldsFrom l from) (more-fields from h))
-
-  pub word-more : (from i : ℕ) → from ≤ i → i < length l → word from (i + 1) ≡ word from i ++ (getD l i 0 ∷ [])
+  pub word-more : (from i : ℕ) → from ≤ i → i < length l → word l from (i + 1) ≡ word l from i ++ (getD l i 0 ∷ [])
   word-more from i h k =
       let e : i + 1 - from ≡ suc (i - from) = omega arith in
       let s : from + (i - from) ≡ i = omega arith in
@@ -81,31 +88,31 @@ module _ (l : List ℕ) where
       rw (e, take-suc (drop from l) (i - from) 0 m, getD-drop, s)
 
   -- one byte on
-  pub field-more : (from i : ℕ) → from ≤ i → i < length l → (getD l i 0 ≡ 32 → ⊥) →
-      fieldsFrom l from ≡ inFront (word from i) (fieldsFrom l i) → fieldsFrom l from ≡ inFront (word from (i + 1)) (fieldsFrom l (i + 1))
-  unfolding fieldsFrom fieldsOf
+  pub field-more : (from i : ℕ) → from ≤ i → i < length l → (getD l i 0 ≡ c → ⊥) →
+      cutFrom c l from ≡ inFront (word l from i) (cutFrom c l i) → cutFrom c l from ≡ inFront (word l from (i + 1)) (cutFrom c l (i + 1))
+  unfolding cutFrom cutAt
   field-more from i h k n e =
-      let here : fieldsFrom l i ≡ inFront (getD l i 0 ∷ []) (fieldsOf (drop (suc i) l)) =
+      let here : cutFrom c l i ≡ inFront (getD l i 0 ∷ []) (cutAt c (drop (suc i) l)) =
       rw (le-leb i (length l) (omega arith), drop-cons l i 0 k, ne-eqb _ _ n) in
-      let there : fieldsFrom l (i + 1) ≡ fieldsOf (drop (suc i) l) = rw (le-leb (i + 1) (length l) (omega arith), add-one) in
-      e ∙ rw (here, there, word-more from i h k) (in-front-more (word from i) (getD l i 0) (fieldsOf (drop (suc i) l)))
+      let there : cutFrom c l (i + 1) ≡ cutAt c (drop (suc i) l) = rw (le-leb (i + 1) (length l) (omega arith), add-one) in
+      e ∙ rw (here, there, word-more from i h k) (in-front-more (word l from i) (getD l i 0) (cutAt c (drop (suc i) l)))
 
-  -- a space ends the field
-  pub field-space : (from i : ℕ) → i < length l → getD l i 0 ≡ 32 →
-      fieldsFrom l from ≡ inFront (word from i) (fieldsFrom l i) → fieldsFrom l from ≡ word from i ∷ fieldsFrom l (i + 1)
-  unfolding fieldsFrom fieldsOf
+  -- c ends the part
+  pub field-space : (from i : ℕ) → i < length l → getD l i 0 ≡ c →
+      cutFrom c l from ≡ inFront (word l from i) (cutFrom c l i) → cutFrom c l from ≡ word l from i ∷ cutFrom c l (i + 1)
+  unfolding cutFrom cutAt
   field-space from i k n e =
-      let here : fieldsFrom l i ≡ [] ∷ fieldsOf (drop (suc i) l) = rw (le-leb i (length l) (omega arith), drop-cons l i 0 k, eq-eqb _ _ n) in
-      let there : fieldsFrom l (i + 1) ≡ fieldsOf (drop (suc i) l) = rw (le-leb (i + 1) (length l) (omega arith), add-one) in
+      let here : cutFrom c l i ≡ [] ∷ cutAt c (drop (suc i) l) = rw (le-leb i (length l) (omega arith), drop-cons l i 0 k, eq-eqb _ _ n) in
+      let there : cutFrom c l (i + 1) ≡ cutAt c (drop (suc i) l) = rw (le-leb (i + 1) (length l) (omega arith), add-one) in
       e ∙ rw (here, there, append-nil)
 
-  -- and so does the line's end
+  -- and so does the end
   pub field-last : (from i : ℕ) → i ≡ length l →
-      fieldsFrom l from ≡ inFront (word from i) (fieldsFrom l i) → fieldsFrom l from ≡ word from i ∷ fieldsFrom l (i + 1)
-  unfolding fieldsFrom fieldsOf
+      cutFrom c l from ≡ inFront (word l from i) (cutFrom c l i) → cutFrom c l from ≡ word l from i ∷ cutFrom c l (i + 1)
+  unfolding cutFrom cutAt
   field-last from i n e =
-      let here : fieldsFrom l i ≡ [] ∷ [] = rw (le-leb i (length l) (omega arith), drop-of-length-le l {i = i} (omega arith)) in
+      let here : cutFrom c l i ≡ [] ∷ [] = rw (le-leb i (length l) (omega arith), drop-of-length-le l {i = i} (omega arith)) in
       e ∙ rw (here, fields-past (i + 1) (omega arith), append-nil)
 
-  pub no-fields : (i : ℕ) → length l < i → isLast (fieldsFrom l i) ≡ true
+  pub no-fields : (i : ℕ) → length l < i → isLast (cutFrom c l i) ≡ true
   no-fields i h = rw (fields-past i h)

@@ -15,8 +15,8 @@ use Rattle.lines.specs.declared.Line.{Line}
 use Rattle.lines.specs.declared.Line.the-variants.{Unreadable}
 use Rattle.lines.specs.declared.Number.{Number}
 use Rattle.lines.specs.declared.Number.the-variants.{NoNumber, Value}
-use Rattle.lines.specs.declared.Target.{Target}
-use Rattle.lines.specs.declared.Target.the-variants.{NoTarget}
+use Rattle.lines.specs.declared.TargetFields.{TargetFields}
+use Rattle.lines.specs.declared.TargetFields.the-variants.{NoTarget}
 
 abbrev Fields : Type 0
 Fields = List (List ℕ)
@@ -24,10 +24,10 @@ Fields = List (List ℕ)
 -- past the line's end there is no field
 module _ (l : List ℕ) (at : ℕ) (h : length l < at) where
   pub number-past : (NoNumber ≡ firstNumber (fieldsFrom l at)) × (fieldsFrom l at ≡ rest (fieldsFrom l at))
-  number-past = let e = fields-past l at h in (rw e, rw e)
+  number-past = let e = fields-past 32 l at h in (rw e, rw e)
 
   pub answer-past : (NoAnswer ≡ firstAnswer (fieldsFrom l at)) × (fieldsFrom l at ≡ rest (fieldsFrom l at))
-  answer-past = let e = fields-past l at h in (rw e, rw e)
+  answer-past = let e = fields-past 32 l at h in (rw e, rw e)
 
 module _ (F : Fields) (w : List ℕ) (G : Fields) (e : F ≡ w ∷ G) where
   pub number-here : (n : Number) → n ≡ numberOf w → (n ≡ firstNumber F) × (G ≡ rest F)
@@ -51,7 +51,7 @@ module _ (F G H I : Fields) (e : G ≡ rest F) (f : H ≡ rest G) (g : I ≡ res
   target-many p = rw (← e, ← f, ← g, p)
 
   pub target-here : isLast I ≡ true → (a x n : Number) → a ≡ firstNumber F → x ≡ firstNumber G → n ≡ firstNumber H →
-      (t : Target) → t ≡ targetIn a x n → t ≡ targetOf F
+      (t : TargetFields) → t ≡ targetIn a x n → t ≡ targetOf F
   unfolding targetOf
   target-here p a x n q r s t u = u ∙ rw (← e, ← f, ← g, p, ← q, ← r, ← s)
 
@@ -75,8 +75,8 @@ module _ (n : ℕ) (F G H I J : Fields) (e : G ≡ restFor n 0 F) (f : H ≡ res
 module _ (devices : ℕ) (l : List ℕ) (h : length l ≤ 4096) (n : Number) (e : n ≡ firstNumber (fieldsFrom l 0)) where
   pub line-no-type : n ≡ NoNumber → Unreadable ≡ lineOf devices l
   unfolding lineOf
-  line-no-type p = rw (le-ltb _ _ h, ← fields-all l, ← e, p)
+  line-no-type p = rw (le-ltb _ _ h, ← fields-all 32 l, ← e, p)
 
   pub line-typed : (t : ℕ) → n ≡ Value t → (G : Fields) → G ≡ rest (fieldsFrom l 0) → (r : Line) → r ≡ lineOfType devices (Value t) G → r ≡ lineOf devices l
   unfolding lineOf
-  line-typed t p G f r q = q ∙ rw (le-ltb _ _ h, ← fields-all l, ← e, p, ← f)
+  line-typed t p G f r q = q ∙ rw (le-ltb _ _ h, ← fields-all 32 l, ← e, p, ← f)

@@ -5,7 +5,6 @@ use mathlib.Core.List.{List, [], _∷_}
 use lib.Dec.{ltb, leb, eqb}
 use lib.ListN.{length, getD, set, replicate}
 use Rattle.arith.specs.Cases.{pick}
-use Rattle.memory.specs.Numbers.{jobTypeNumber}
 use Rattle.memory.specs.declared.DeviceAnswer.{DeviceAnswer}
 use Rattle.memory.specs.declared.DeviceAnswer.the-variants.{Pending, Done, Failed}
 use Rattle.memory.specs.declared.JobType.{JobType}
@@ -14,12 +13,15 @@ use Rattle.lines.specs.Fields.{fieldsOf, rest, isLast}
 use Rattle.lines.specs.Number.{numberOf}
 use Rattle.lines.specs.declared.AnswerWord.{AnswerWord}
 use Rattle.lines.specs.declared.AnswerWord.the-variants.{NoAnswer, Answer}
+use Rattle.lines.specs.declared.LineCall.{LineCall}
+use Rattle.lines.specs.declared.LineCall.the-variants as Calls
 use Rattle.lines.specs.declared.Line.{Line}
-use Rattle.lines.specs.declared.Line.the-variants.{Unreadable, Job, Release, Cancel, Info, Round}
+use Rattle.lines.specs.declared.Line.the-variants.{Unreadable, Call, Info, Round}
 use Rattle.lines.specs.declared.Number.{Number}
 use Rattle.lines.specs.declared.Number.the-variants.{NoNumber, Value}
 use Rattle.lines.specs.declared.Target.{Target}
-use Rattle.lines.specs.declared.Target.the-variants.{NoTarget, Range}
+use Rattle.lines.specs.declared.TargetFields.{TargetFields}
+use Rattle.lines.specs.declared.TargetFields.the-variants.{NoTarget, At}
 
 -- the first field as a number; a field that is missing is none
 abbrev pub firstNumber : List (List ℕ) → Number
@@ -30,14 +32,14 @@ firstNumber (f ∷ fs) = numberOf f
 unfoldable pub onlyNumber : List (List ℕ) → Number
 onlyNumber fs = pick (isLast (rest fs)) (firstNumber fs) NoNumber
 
-abbrev pub targetIn : Number → Number → Number → Target
+abbrev pub targetIn : Number → Number → Number → TargetFields
 targetIn NoNumber x n = NoTarget
 targetIn (Value a) NoNumber n = NoTarget
 targetIn (Value a) (Value x) NoNumber = NoTarget
-targetIn (Value a) (Value x) (Value n) = Range a x n
+targetIn (Value a) (Value x) (Value n) = At (record { area = a; address = x; length = n })
 
 -- "area address length": three numbers and no other field
-unfoldable pub targetOf : List (List ℕ) → Target
+unfoldable pub targetOf : List (List ℕ) → TargetFields
 targetOf fs =
     pick (isLast (rest (rest (rest fs))))
     (targetIn (firstNumber fs) (firstNumber (rest fs)) (firstNumber (rest (rest fs))))
@@ -95,19 +97,25 @@ kindOf t =
     (pick (eqb t 7) Lock NoJob)))))
 
 abbrev pub jobIn : JobType → Target → Line
-jobIn k NoTarget = Unreadable
-jobIn k (Range a x n) = Job k a x n
+jobIn NoJob t = Unreadable
+jobIn Write t = Call (Calls.Write t)
+jobIn Read t = Call (Calls.Read t)
+jobIn Compare t = Call (Calls.Compare t)
+jobIn Erase t = Call (Calls.Erase t)
+jobIn BlankCheck t = Call (Calls.BlankCheck t)
+jobIn Lock t = Call (Calls.Lock t)
 
-unfoldable pub jobLine : JobType → Target → Line
-jobLine k target = pick (ltb (jobTypeNumber k) 1) Unreadable (jobIn k target)
+abbrev pub jobLine : JobType → TargetFields → Line
+jobLine k NoTarget = Unreadable
+jobLine k (At t) = jobIn k t
 
-abbrev pub releaseLine : Target → Line
+abbrev pub releaseLine : TargetFields → Line
 releaseLine NoTarget = Unreadable
-releaseLine (Range a x n) = Release a x n
+releaseLine (At t) = Call (Calls.Release t)
 
 abbrev pub cancelLine : Number → Line
 cancelLine NoNumber = Unreadable
-cancelLine (Value a) = Cancel a
+cancelLine (Value a) = Call (Calls.Cancel a)
 
 abbrev pub infoLine : Number → Line
 infoLine NoNumber = Unreadable

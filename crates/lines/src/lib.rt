@@ -2,8 +2,8 @@
 ghost use mathlib.Core.Path.{_≡_};
 ghost use Prim.Native.Nat.{_≤_, _<_};
 ghost use lib.ListN.{length};
-ghost use Rattle.lines.specs.Fields.{fieldsFrom, rest, isLast, word};
-ghost use Rattle.lines.specs.Lines.{firstNumber, onlyNumber, targetIn, targetOf, isLetter, failedAfter, answerOf, firstAnswer, answerFor, restFor, roundIn, answersOf, roundLine, kindOf, jobLine, releaseLine, cancelLine, infoLine, lineOfType, lineOf};
+ghost use Rattle.lines.specs.Fields.{cutFrom, fieldsFrom, rest, isLast, word};
+ghost use Rattle.lines.specs.Lines.{firstNumber, onlyNumber, targetIn, targetOf, isLetter, failedAfter, answerOf, firstAnswer, answerFor, restFor, roundIn, answersOf, roundLine, kindOf, jobIn, jobLine, releaseLine, cancelLine, infoLine, lineOfType, lineOf};
 ghost use Rattle.lines.specs.Number.{numberOf};
 ghost use mathlib.Core.List.{_∷_};
 ghost use Prim.Native.Nat.{_+_};
@@ -23,30 +23,33 @@ pub enum AnswerWord {
 }
 
 // "area address length" of a line.
-pub enum Target {
+pub struct Target {
+    pub area: u32,
+    pub address: u32,
+    pub length: u32,
+}
+
+pub enum TargetFields {
     NoTarget,
-    Range {
-        area: u32,
-        address: u32,
-        length: u32,
-    },
+    At(Target),
+}
+
+// A call on the manager that answers with its number alone.
+pub enum LineCall {
+    Write(Target),
+    Read(Target),
+    Compare(Target),
+    Erase(Target),
+    BlankCheck(Target),
+    Lock(Target),
+    Release(Target),
+    Cancel(u32),
 }
 
 // What a line asks for.
 pub enum Line {
     Unreadable,
-    Job {
-        kind: JobType,
-        area: u32,
-        address: u32,
-        length: u32,
-    },
-    Release {
-        area: u32,
-        address: u32,
-        length: u32,
-    },
-    Cancel(u32),
+    Call(LineCall),
     Info(u32),
     Round {
         first: DeviceAnswer,
@@ -88,14 +91,14 @@ pub fn number_of(text: &[u8]) -> Number
     Number::Value(value as u32)
 }
 
-// Where the field from byte `from` on ends: at the next space, or at the line's end.
-fn field_end(line: &[u8], from: usize) -> usize
-    requires { ⌜ from ≤ length (now line) ⌝ }
-    ensures { λ r. ⌜ (from ≤ r) × (r ≤ length (now (line .entry))) × (fieldsFrom (now (line .entry)) from ≡ word (now (line .entry)) from r ∷ fieldsFrom (now (line .entry)) (r + 1)) ⌝ }
+// Where the part from byte `from` on ends: at the next byte `mark`, or at the end.
+pub fn part_end(bytes: &[u8], mark: u8, from: usize) -> usize
+    requires { ⌜ from ≤ length (now bytes) ⌝ }
+    ensures { λ r. ⌜ (from ≤ r) × (r ≤ length (now (bytes .entry))) × (cutFrom mark (now (bytes .entry)) from ≡ word (now (bytes .entry)) from r ∷ cutFrom mark (now (bytes .entry)) (r + 1)) ⌝ }
 {
     let mut i = from;
-    while i < line.len() {
-        if line[i] == b' ' {
+    while i < bytes.len() {
+        if bytes[i] == mark {
             return i;
         }
         i += 1;
@@ -118,7 +121,7 @@ fn next_number(line: &[u8], at: usize) -> NumberField
             next: at,
         };
     }
-    let to = field_end(line, at);
+    let to = part_end(line, b' ', at);
     let number = number_of(&line[at..to]);
     NumberField {
         number,
@@ -136,33 +139,33 @@ fn only_number(line: &[u8], at: usize) -> Number
     field.number
 }
 
-fn target_in(area: Number, address: Number, length: Number) -> Target
+fn target_in(area: Number, address: Number, length: Number) -> TargetFields
     ensures { λ r. ⌜ r ≡ targetIn area address length ⌝ }
 {
     let Number::Value(area) = area else {
-        return Target::NoTarget;
+        return TargetFields::NoTarget;
     };
     let Number::Value(address) = address else {
-        return Target::NoTarget;
+        return TargetFields::NoTarget;
     };
     let Number::Value(length) = length else {
-        return Target::NoTarget;
+        return TargetFields::NoTarget;
     };
-    Target::Range {
+    TargetFields::At(Target {
         area,
         address,
         length,
-    }
+    })
 }
 
-fn target_from(line: &[u8], at: usize) -> Target
+fn target_from(line: &[u8], at: usize) -> TargetFields
     ensures { λ r. ⌜ r ≡ targetOf (fieldsFrom (now (line .entry)) at) ⌝ }
 {
     let area = next_number(line, at);
     let address = next_number(line, area.next);
     let length = next_number(line, address.next);
     if length.next <= line.len() {
-        return Target::NoTarget;
+        return TargetFields::NoTarget;
     }
     let first = area.number;
     let second = address.number;
@@ -216,7 +219,7 @@ fn next_answer(line: &[u8], at: usize) -> AnswerField
             next: at,
         };
     }
-    let to = field_end(line, at);
+    let to = part_end(line, b' ', at);
     let answer = answer_of(&line[at..to]);
     AnswerField {
         answer,
@@ -310,41 +313,35 @@ fn kind_of(number: u32) -> JobType
     JobType::NoJob
 }
 
-fn job_line(kind: JobType, target: Target) -> Line
-    ensures { λ r. ⌜ r ≡ jobLine kind target ⌝ }
+fn job_in(kind: JobType, target: Target) -> Line
+    ensures { λ r. ⌜ r ≡ jobIn kind target ⌝ }
 {
-    if kind.number() < 1 {
-        return Line::Unreadable;
-    }
-    match target {
-        Target::NoTarget => Line::Unreadable,
-        Target::Range {
-            area,
-            address,
-            length,
-        } => Line::Job {
-            kind,
-            area,
-            address,
-            length,
-        },
+    match kind {
+        JobType::NoJob => Line::Unreadable,
+        JobType::Write => Line::Call(LineCall::Write(target)),
+        JobType::Read => Line::Call(LineCall::Read(target)),
+        JobType::Compare => Line::Call(LineCall::Compare(target)),
+        JobType::Erase => Line::Call(LineCall::Erase(target)),
+        JobType::BlankCheck => Line::Call(LineCall::BlankCheck(target)),
+        JobType::Lock => Line::Call(LineCall::Lock(target)),
     }
 }
 
-fn release_line(target: Target) -> Line
+fn job_line(kind: JobType, target: TargetFields) -> Line
+    ensures { λ r. ⌜ r ≡ jobLine kind target ⌝ }
+{
+    match target {
+        TargetFields::NoTarget => Line::Unreadable,
+        TargetFields::At(target) => job_in(kind, target),
+    }
+}
+
+fn release_line(target: TargetFields) -> Line
     ensures { λ r. ⌜ r ≡ releaseLine target ⌝ }
 {
     match target {
-        Target::NoTarget => Line::Unreadable,
-        Target::Range {
-            area,
-            address,
-            length,
-        } => Line::Release {
-            area,
-            address,
-            length,
-        },
+        TargetFields::NoTarget => Line::Unreadable,
+        TargetFields::At(target) => Line::Call(LineCall::Release(target)),
     }
 }
 
@@ -353,7 +350,7 @@ fn cancel_line(area: Number) -> Line
 {
     match area {
         Number::NoNumber => Line::Unreadable,
-        Number::Value(area) => Line::Cancel(area),
+        Number::Value(area) => Line::Call(LineCall::Cancel(area)),
     }
 }
 

@@ -1,10 +1,10 @@
--- document 01, "A printed session": what is printed of an entry (rules, Session)
+-- document 01, "A printed session": what a round prints of its devices (rules, Session)
 use Prim.Native.Nat.{ℕ}
 use mathlib.Core.List.{List, [], _∷_, _++_}
 use Rattle.plan.specs.declared.records.Plan.{Plan}
 use Rattle.rules.specs.Machine.{Core}
-use Rattle.rules.specs.Session.{Shown, nothing, locked, request, Entry, number, devices, info, shownTo}
-use Rattle.texts.specs.Texts.{numberLine, infoLine, freeText, lockedText, requestText}
+use Rattle.rules.specs.Session.{Shown, nothing, locked, request, shownTo}
+use Rattle.texts.specs.Texts.{freeText, lockedText, requestText}
 
 abbrev pub shownText : Shown → List ℕ
 shownText nothing = freeText
@@ -18,11 +18,6 @@ shownTexts (x ∷ l) = shownText x ++ shownTexts l
 -- "it prints R and per device": "R" is 82
 unfoldable pub roundLine : List Shown → List ℕ
 roundLine l = (82 ∷ []) ++ shownTexts l ++ (10 ∷ [])
-
-abbrev pub entryLine : Entry → List ℕ
-entryLine (number n) = numberLine n
-entryLine (devices l) = roundLine l
-entryLine (info result processed own above below held) = infoLine result processed own above below held
 
 -- the line of an accepted round that left jobs and devices so
 abbrev pub devicesLine : Plan → Core → List ℕ

@@ -14,12 +14,10 @@ next-answer-requires c κs = search needs
 
 -- src/lib.rt:232:9
 returns : tie.Need-returns
-unfolding Rattle.lines.specs.Fields.fieldsFrom
 returns c = answer-for (c .before .before .before .args .devices) (c .before .before .before .args .device) (fieldsFrom (c .before .before .before .args .line .now) (c .before .before .before .args .at)) (c .before .if1 .taken) _ _ (c .next-answer .ensures)
 
 -- src/lib.rt:228:1
 returns-2 : tie.Need-returns-2
-unfolding Rattle.lines.specs.Fields.fieldsFrom
 returns-2 c = answer-beyond (c .before .before .args .devices) (c .before .before .args .device) (fieldsFrom (c .before .before .args .line .now) (c .before .before .args .at)) (c .if1 .left)
 
 pub answer-for-spec : {M : Type 1} → statement M

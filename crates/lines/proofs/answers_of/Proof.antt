@@ -28,8 +28,7 @@ answer-for-requires-4 c κs = search needs
 
 -- src/lib.rt:271:9
 returns : tie.Need-returns
-unfolding Rattle.lines.specs.Fields.fieldsFrom
-returns c = answers-many (c .before .before .before .before .before .before .before .args .devices) (fieldsFrom (c .before .before .before .before .before .before .before .args .line .now) (c .before .before .before .before .before .before .before .args .at)) _ _ _ _ (c .before .before .before .before .before .answer-for .ensures .1) (c .before .before .before .before .answer-for2 .ensures .1) (c .before .before .before .answer-for3 .ensures .1) (c .before .before .answer-for4 .ensures .1) (more-fields (c .before .before .before .before .before .before .before .args .line .now) _ (c .if1 .taken))
+returns c = answers-many (c .before .before .before .before .before .before .before .args .devices) (fieldsFrom (c .before .before .before .before .before .before .before .args .line .now) (c .before .before .before .before .before .before .before .args .at)) _ _ _ _ (c .before .before .before .before .before .answer-for .ensures .1) (c .before .before .before .before .answer-for2 .ensures .1) (c .before .before .before .answer-for3 .ensures .1) (c .before .before .answer-for4 .ensures .1) (more-fields 32 (c .before .before .before .before .before .before .before .args .line .now) _ (c .if1 .taken))
 
 -- src/lib.rt:277:5
 round-in-requires : tie.Need-round-in-requires
@@ -37,8 +36,7 @@ round-in-requires c κs = search needs
 
 -- src/lib.rt:263:1
 returns-2 : tie.Need-returns-2
-unfolding Rattle.lines.specs.Fields.fieldsFrom
-returns-2 c = answers-here (c .before .before .before .before .before .before .before .before .args .devices) (fieldsFrom (c .before .before .before .before .before .before .before .before .args .line .now) (c .before .before .before .before .before .before .before .before .args .at)) _ _ _ _ (c .before .before .before .before .before .before .answer-for .ensures .1) (c .before .before .before .before .before .answer-for2 .ensures .1) (c .before .before .before .before .answer-for3 .ensures .1) (c .before .before .before .answer-for4 .ensures .1) (no-fields (c .before .before .before .before .before .before .before .before .args .line .now) _ (c .before .if1 .left)) _ _ _ _ (c .before .before .before .before .before .before .answer-for .ensures .0) (c .before .before .before .before .before .answer-for2 .ensures .0) (c .before .before .before .before .answer-for3 .ensures .0) (c .before .before .before .answer-for4 .ensures .0) _ (c .round-in .ensures)
+returns-2 c = answers-here (c .before .before .before .before .before .before .before .before .args .devices) (fieldsFrom (c .before .before .before .before .before .before .before .before .args .line .now) (c .before .before .before .before .before .before .before .before .args .at)) _ _ _ _ (c .before .before .before .before .before .before .answer-for .ensures .1) (c .before .before .before .before .before .answer-for2 .ensures .1) (c .before .before .before .before .answer-for3 .ensures .1) (c .before .before .before .answer-for4 .ensures .1) (no-fields 32 (c .before .before .before .before .before .before .before .before .args .line .now) _ (c .before .if1 .left)) _ _ _ _ (c .before .before .before .before .before .before .answer-for .ensures .0) (c .before .before .before .before .before .answer-for2 .ensures .0) (c .before .before .before .before .answer-for3 .ensures .0) (c .before .before .before .answer-for4 .ensures .0) _ (c .round-in .ensures)
 
 pub answers-of-spec : {M : Type 1} → statement M
 answers-of-spec =

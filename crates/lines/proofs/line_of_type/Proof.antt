@@ -19,7 +19,6 @@ round-line-requires c κs = search needs
 
 -- src/lib.rt:374:9
 returns : tie.Need-returns
-unfolding Rattle.lines.specs.Fields.fieldsFrom
 returns c = simp (← (c .round-line .ensures), eq-eqb _ _ (c .before .if1 .taken))
 
 -- src/lib.rt:377:29
@@ -32,7 +31,6 @@ release-line-requires c κs = search needs
 
 -- src/lib.rt:377:9
 returns-2 : tie.Need-returns-2
-unfolding Rattle.lines.specs.Fields.fieldsFrom
 returns-2 c = simp (← (c .release-line .ensures), ← (c .before .target-from .ensures), eq-eqb _ _ (c .before .before .if2 .taken), ne-eqb _ _ (c .before .before .before .if1 .left))
 
 -- src/lib.rt:380:28
@@ -45,7 +43,6 @@ cancel-line-requires c κs = search needs
 
 -- src/lib.rt:380:9
 returns-3 : tie.Need-returns-3
-unfolding Rattle.lines.specs.Fields.fieldsFrom
 returns-3 c = simp (← (c .cancel-line .ensures), ← (c .before .only-number .ensures), eq-eqb _ _ (c .before .before .if3 .taken), ne-eqb _ _ (c .before .before .before .if2 .left), ne-eqb _ _ (c .before .before .before .before .if1 .left))
 
 -- src/lib.rt:383:26
@@ -58,7 +55,6 @@ info-line-requires c κs = search needs
 
 -- src/lib.rt:383:9
 returns-4 : tie.Need-returns-4
-unfolding Rattle.lines.specs.Fields.fieldsFrom
 returns-4 c = simp (← (c .info-line .ensures), ← (c .before .only-number2 .ensures), eq-eqb _ _ (c .before .before .if4 .taken), ne-eqb _ _ (c .before .before .before .if3 .left), ne-eqb _ _ (c .before .before .before .before .if2 .left), ne-eqb _ _ (c .before .before .before .before .before .if1 .left))
 
 -- src/lib.rt:385:9
@@ -75,7 +71,6 @@ job-line-requires c κs = search needs
 
 -- src/lib.rt:370:1
 returns-5 : tie.Need-returns-5
-unfolding Rattle.lines.specs.Fields.fieldsFrom
 returns-5 c = simp (← (c .job-line .ensures), ← (c .before .target-from2 .ensures), ← (c .before .before .kind-of .ensures), ne-eqb _ _ (c .before .before .before .if4 .left), ne-eqb _ _ (c .before .before .before .before .if3 .left), ne-eqb _ _ (c .before .before .before .before .before .if2 .left), ne-eqb _ _ (c .before .before .before .before .before .before .if1 .left))
 
 pub line-of-type-spec : {M : Type 1} → statement M

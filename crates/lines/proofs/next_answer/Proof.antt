@@ -6,16 +6,15 @@ use Rattle.lines.proofs.next_answer.Tie as tie
 use Rattle.lines.proofs.next_answer.Reads as reads
 use Rattle.lines.proofs.next_answer.Lts as lts
 use Rattle.lines.proofs.answer_of.Reads as answer-of-reads
-use Rattle.lines.proofs.field_end.Reads as field-end-reads
+use Rattle.lines.proofs.part_end.Reads as part-end-reads
 
 -- src/lib.rt:214:9
 returns : tie.Need-returns
-unfolding Rattle.lines.specs.Fields.fieldsFrom
 returns c = answer-past (c .before .before .args .line .now) (c .before .before .args .at) (c .if1 .taken)
 
 -- src/lib.rt:219:9
-field-end-requires : tie.Need-field-end-requires
-field-end-requires c κs = search needs
+part-end-requires : tie.Need-part-end-requires
+part-end-requires c κs = search needs
 
 -- src/lib.rt:220:28
 sub-answer-of : tie.Need-sub-answer-of
@@ -39,15 +38,14 @@ add-t5 c = search needs
 
 -- src/lib.rt:210:1
 returns-2 : tie.Need-returns-2
-unfolding Rattle.lines.specs.Fields.fieldsFrom
-returns-2 c = answer-here _ _ _ (c .before .before .field-end .ensures .2) _ (c .answer-of .ensures)
+returns-2 c = answer-here _ _ _ (c .before .before .part-end .ensures .2) _ (c .answer-of .ensures)
 
 pub next-answer-spec : {M : Type 1} → statement M
 next-answer-spec =
     tie.close
     (tie.spec
     returns
-    field-end-requires
+    part-end-requires
     sub-answer-of
     part-answer-of-start
     part-answer-of-end

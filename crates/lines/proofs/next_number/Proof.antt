@@ -5,17 +5,16 @@ use Rattle.lines.proofs.next_number.Statement.{statement}
 use Rattle.lines.proofs.next_number.Tie as tie
 use Rattle.lines.proofs.next_number.Reads as reads
 use Rattle.lines.proofs.next_number.Lts as lts
-use Rattle.lines.proofs.field_end.Reads as field-end-reads
+use Rattle.lines.proofs.part_end.Reads as part-end-reads
 use Rattle.lines.proofs.number_of.Reads as number-of-reads
 
 -- src/lib.rt:116:9
 returns : tie.Need-returns
-unfolding Rattle.lines.specs.Fields.fieldsFrom
 returns c = number-past (c .before .before .args .line .now) (c .before .before .args .at) (c .if1 .taken)
 
 -- src/lib.rt:121:9
-field-end-requires : tie.Need-field-end-requires
-field-end-requires c κs = search needs
+part-end-requires : tie.Need-part-end-requires
+part-end-requires c κs = search needs
 
 -- src/lib.rt:122:28
 sub-number-of : tie.Need-sub-number-of
@@ -39,15 +38,14 @@ add-t5 c = search needs
 
 -- src/lib.rt:112:1
 returns-2 : tie.Need-returns-2
-unfolding Rattle.lines.specs.Fields.fieldsFrom
-returns-2 c = number-here _ _ _ (c .before .before .field-end .ensures .2) _ (c .number-of .ensures)
+returns-2 c = number-here _ _ _ (c .before .before .part-end .ensures .2) _ (c .number-of .ensures)
 
 pub next-number-spec : {M : Type 1} → statement M
 next-number-spec =
     tie.close
     (tie.spec
     returns
-    field-end-requires
+    part-end-requires
     sub-number-of
     part-number-of-start
     part-number-of-end

@@ -15,13 +15,11 @@ next-number-requires c κs = search needs
 
 -- src/lib.rt:134:9
 returns : tie.Need-returns
-unfolding Rattle.lines.specs.Lines.onlyNumber Rattle.lines.specs.Fields.fieldsFrom
-returns c = only-many (fieldsFrom (c .before .before .before .before .args .line .now) (c .before .before .before .before .args .at)) _ (c .before .before .next-number .ensures .1) (more-fields (c .before .before .before .before .args .line .now) _ (c .if1 .taken))
+returns c = only-many (fieldsFrom (c .before .before .before .before .args .line .now) (c .before .before .before .before .args .at)) _ (c .before .before .next-number .ensures .1) (more-fields 32 (c .before .before .before .before .args .line .now) _ (c .if1 .taken))
 
 -- src/lib.rt:129:1
 returns-2 : tie.Need-returns-2
-unfolding Rattle.lines.specs.Lines.onlyNumber Rattle.lines.specs.Fields.fieldsFrom
-returns-2 c = only-here (fieldsFrom (c .before .before .before .before .args .line .now) (c .before .before .before .before .args .at)) _ (c .before .before .next-number .ensures .1) (no-fields (c .before .before .before .before .args .line .now) _ (c .if1 .left)) _ (c .before .before .next-number .ensures .0)
+returns-2 c = only-here (fieldsFrom (c .before .before .before .before .args .line .now) (c .before .before .before .before .args .at)) _ (c .before .before .next-number .ensures .1) (no-fields 32 (c .before .before .before .before .args .line .now) _ (c .if1 .left)) _ (c .before .before .next-number .ensures .0)
 
 pub only-number-spec : {M : Type 1} → statement M
 only-number-spec = tie.close (tie.spec next-number-requires returns returns-2)

@@ -24,8 +24,7 @@ next-number-requires-3 c κs = search needs
 
 -- src/lib.rt:165:9
 returns : tie.Need-returns
-unfolding Rattle.lines.specs.Lines.targetOf Rattle.lines.specs.Fields.fieldsFrom
-returns c = target-many (fieldsFrom (c .before .before .before .before .before .before .args .line .now) (c .before .before .before .before .before .before .args .at)) _ _ _ (c .before .before .before .before .next-number .ensures .1) (c .before .before .before .next-number2 .ensures .1) (c .before .before .next-number3 .ensures .1) (more-fields (c .before .before .before .before .before .before .args .line .now) _ (c .if1 .taken))
+returns c = target-many (fieldsFrom (c .before .before .before .before .before .before .args .line .now) (c .before .before .before .before .before .before .args .at)) _ _ _ (c .before .before .before .before .next-number .ensures .1) (c .before .before .before .next-number2 .ensures .1) (c .before .before .next-number3 .ensures .1) (more-fields 32 (c .before .before .before .before .before .before .args .line .now) _ (c .if1 .taken))
 
 -- src/lib.rt:170:5
 target-in-requires : tie.Need-target-in-requires
@@ -33,8 +32,7 @@ target-in-requires c κs = search needs
 
 -- src/lib.rt:158:1
 returns-2 : tie.Need-returns-2
-unfolding Rattle.lines.specs.Lines.targetOf Rattle.lines.specs.Fields.fieldsFrom
-returns-2 c = target-here (fieldsFrom (c .before .before .before .before .before .before .before .args .line .now) (c .before .before .before .before .before .before .before .args .at)) _ _ _ (c .before .before .before .before .before .next-number .ensures .1) (c .before .before .before .before .next-number2 .ensures .1) (c .before .before .before .next-number3 .ensures .1) (no-fields (c .before .before .before .before .before .before .before .args .line .now) _ (c .before .if1 .left)) _ _ _ (c .before .before .before .before .before .next-number .ensures .0) (c .before .before .before .before .next-number2 .ensures .0) (c .before .before .before .next-number3 .ensures .0) _ (c .target-in .ensures)
+returns-2 c = target-here (fieldsFrom (c .before .before .before .before .before .before .before .args .line .now) (c .before .before .before .before .before .before .before .args .at)) _ _ _ (c .before .before .before .before .before .next-number .ensures .1) (c .before .before .before .before .next-number2 .ensures .1) (c .before .before .before .next-number3 .ensures .1) (no-fields 32 (c .before .before .before .before .before .before .before .args .line .now) _ (c .before .if1 .left)) _ _ _ (c .before .before .before .before .before .next-number .ensures .0) (c .before .before .before .before .next-number2 .ensures .0) (c .before .before .before .next-number3 .ensures .0) _ (c .target-in .ensures)
 
 pub target-from-spec : {M : Type 1} → statement M
 target-from-spec =
