@@ -1,0 +1,130 @@
+// A line of the session: read, carried out on the manager, and its answer printed into a lent buffer.
+ghost use mathlib.Core.Path.{_≡_};
+ghost use Prim.Native.Nat.{_+_, _≤_};
+ghost use lib.ListN.{length};
+ghost use Rattle.manager.specs.Calls.{infoNumberOf, infoOf};
+ghost use Rattle.memory.specs.Numbers.{admissionNumber};
+ghost use Rattle.texts.specs.Appended.{Appended};
+ghost use Rattle.texts.specs.Texts.{numberLine};
+ghost use Rattle.session.specs.Play.{numberOfCall, afterCall, infoText, textOfLine, afterLine, memoryAfterLine, playedText, playedManager, playedMemory};
+use lines::Line;
+use lines::LineCall;
+use lines::line_of;
+use manager::Answered;
+use manager::Manager;
+use memory::LogicalAddress;
+use texts::info_line;
+use texts::number_line;
+use texts::question_line;
+
+// The next manager, and where the answer ends in the buffer.
+pub struct Played {
+    pub manager: Manager,
+    pub end: usize,
+}
+
+fn make(manager: Manager, call: LineCall) -> Answered
+    ensures { λ r. ⌜ admissionNumber (r .answer) ≡ numberOfCall call manager ⌝ }
+    ensures { λ r. ⌜ r .manager ≡ afterCall call manager ⌝ }
+{
+    match call {
+        LineCall::Write(t) => manager.write(t.area as usize, LogicalAddress(t.address), t.length),
+        LineCall::Read(t) => manager.read(t.area as usize, LogicalAddress(t.address), t.length),
+        LineCall::Compare(t) => {
+            manager.compare(t.area as usize, LogicalAddress(t.address), t.length)
+        }
+        LineCall::Erase(t) => manager.erase(t.area as usize, LogicalAddress(t.address), t.length),
+        LineCall::BlankCheck(t) => {
+            manager.blank_check(t.area as usize, LogicalAddress(t.address), t.length)
+        }
+        LineCall::Lock(t) => manager.lock(t.area as usize, LogicalAddress(t.address), t.length),
+        LineCall::Release(t) => {
+            manager.release(t.area as usize, LogicalAddress(t.address), t.length)
+        }
+        LineCall::Cancel(area) => manager.cancel(area as usize),
+    }
+}
+
+fn play_call(manager: Manager, call: LineCall, out: &mut [u8], at: usize) -> Played
+    requires { ⌜ at + 338 ≤ length (now out) ⌝ }
+    ensures { λ r. ⌜ (r .manager ≡ afterCall call manager) × (Appended (now (out .entry)) (now (out .exit)) at (r .end) (numberLine (numberOfCall call manager))) × (r .end ≤ at + 338) ⌝ }
+{
+    let answered = make(manager, call);
+    let answer = answered.answer;
+    let number = answer.number();
+    let next = answered.manager;
+    let end = number_line(out, at, number as u64);
+    Played { manager: next, end }
+}
+
+fn play_info(manager: Manager, area: u32, out: &mut [u8], at: usize) -> usize
+    requires { ⌜ at + 338 ≤ length (now out) ⌝ }
+    ensures { λ r. ⌜ (Appended (now (out .entry)) (now (out .exit)) at r (infoText (infoNumberOf manager area) (infoOf manager area))) × (r ≤ at + 338) ⌝ }
+{
+    let asked = manager.job_info(area as usize);
+    let answer = asked.answer;
+    let number = answer.number();
+    if 0 < number {
+        return number_line(out, at, number as u64);
+    }
+    let info = asked.info;
+    let result = info.result;
+    let waits = info.waits;
+    info_line(out, at, result, info.processed, waits)
+}
+
+fn play_line(
+    manager: Manager,
+    line: Line,
+    image: &mut [u8],
+    store: &mut [u8],
+    out: &mut [u8],
+    at: usize,
+) -> Played
+    requires { ⌜ at + 338 ≤ length (now out) ⌝ }
+    ensures { λ r. ⌜ r .manager ≡ afterLine line manager (record { image = now (image .entry); store = now (store .entry) }) ⌝ }
+    ensures { λ _. ⌜ now (image .exit) ≡ memoryAfterLine line manager (record { image = now (image .entry); store = now (store .entry) }) .image ⌝ }
+    ensures { λ _. ⌜ now (store .exit) ≡ memoryAfterLine line manager (record { image = now (image .entry); store = now (store .entry) }) .store ⌝ }
+    ensures { λ r. ⌜ (Appended (now (out .entry)) (now (out .exit)) at (r .end) (textOfLine line manager (record { image = now (image .entry); store = now (store .entry) }))) × (r .end ≤ at + 338) ⌝ }
+{
+    match line {
+        Line::Unreadable => {
+            let end = question_line(out, at);
+            Played { manager, end }
+        }
+        Line::Call(call) => play_call(manager, call, out, at),
+        Line::Info(area) => {
+            let end = play_info(manager, area, out, at);
+            Played { manager, end }
+        }
+        Line::Round {
+            first: _,
+            second: _,
+            third: _,
+            fourth: _,
+        } => {
+            let end = question_line(out, at);
+            Played { manager, end }
+        }
+    }
+}
+
+// A line, its bytes without the line end. The answer is at most 338 bytes long.
+pub fn play(
+    manager: Manager,
+    line: &[u8],
+    image: &mut [u8],
+    store: &mut [u8],
+    out: &mut [u8],
+    at: usize,
+) -> Played
+    requires { ⌜ at + 338 ≤ length (now out) ⌝ }
+    ensures { λ r. ⌜ r .manager ≡ playedManager manager (now (line .entry)) (record { image = now (image .entry); store = now (store .entry) }) ⌝ }
+    ensures { λ _. ⌜ now (image .exit) ≡ playedMemory manager (now (line .entry)) (record { image = now (image .entry); store = now (store .entry) }) .image ⌝ }
+    ensures { λ _. ⌜ now (store .exit) ≡ playedMemory manager (now (line .entry)) (record { image = now (image .entry); store = now (store .entry) }) .store ⌝ }
+    ensures { λ r. ⌜ (Appended (now (out .entry)) (now (out .exit)) at (r .end) (playedText manager (now (line .entry)) (record { image = now (image .entry); store = now (store .entry) }))) × (r .end ≤ at + 338) ⌝ }
+{
+    let plan = manager.plan;
+    let asked = line_of(line, plan.device_count);
+    play_line(manager, asked, image, store, out, at)
+}
