@@ -1,11 +1,11 @@
 -- A table of fixed length whose first entries are in use.
 use Prim.Native.Nat.{ℕ, zero, suc, _+_, _<_, _≤_}
-use mathlib.Core.Path.{_≡_, _∙_}
+use mathlib.Core.Path.{_≡_, refl, sym, _∙_}
 use mathlib.Core.List.{List}
 use native.Mathlib.Omega.{arith}
 use native.Mathlib.Numerals.{add-one}
 use lib.ListN.{length, getD, set, replicate, length-set, length-replicate}
-use lib.Seq.{getD-set-same, getD-set-other}
+use lib.Seq.{getD-set-same, getD-set-other, ext-getD}
 use Rattle.arith.specs.Bounded.{below-suc}
 
 module _ {A : Type 0} (k : ℕ) (f : ℕ → A) (blank : A) where
@@ -31,3 +31,15 @@ module _ {A : Type 0} (k : ℕ) (f : ℕ → A) (blank : A) where
       below-suc i n h
       (λ e. rw e (getD-set-same (table n) n (f n) d (rw (length-table n) l)))
       (λ g. getD-set-other (table n) n i (f n) d (λ e. omega arith) ∙ table-at n i d g (omega arith))
+
+-- equal entries, equal tables
+pub table-same : {A : Type 0} (k : ℕ) (f g : ℕ → A) (blank : A) (n : ℕ) → ((i : ℕ) → i < n → f i ≡ g i) → table k f blank n ≡ table k g blank n
+unfolding table
+table-same k f g blank zero h = refl
+table-same k f g blank (suc n) h = rw (table-same k f g blank n (λ i l. h i (omega arith)), h n (omega arith))
+
+-- a list is the table of its entries
+pub table-whole : {A : Type 0} (k : ℕ) (f : ℕ → A) (blank : A) (l : List A) → length l ≡ k → ((i : ℕ) → i < k → getD l i blank ≡ f i) → l ≡ table k f blank k
+table-whole k f blank l e h =
+    ext-getD blank l (table k f blank k) (rw (length-table k f blank k) e)
+    (λ i m. let b : i < k = omega (arith, e, m) in h i b ∙ sym (table-at k f blank k i blank b (omega arith)))

@@ -105,7 +105,7 @@ roundNumberOf m lent = pick (isSound (m .plan) (m .areas) (m .devices)) (roundNu
 unfoldable pub afterRound : Manager → List DeviceAnswer → Memory → Manager
 afterRound m answers lent =
     let after = halvesOf (m .plan) (m .areas) (m .devices) answers lent .core in
-    ifAccepted (roundNumberOf m lent) (record { plan = m .plan; areas = areasAfter (m .plan) (m .areas) after; devices = devicesAfter after }) m
+    ifAccepted (roundNumberOf m lent) (record { plan = m .plan; areas = areasAfter (layoutOf (m .plan)) (m .areas) after; devices = devicesAfter after }) m
 
 -- "lent memory untouched" where it is refused
 unfoldable pub memoryAfterRound : Manager → List DeviceAnswer → Memory → Memory

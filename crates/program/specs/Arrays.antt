@@ -18,31 +18,31 @@ use Rattle.state.specs.declared.DeviceState.the-variants.{Free}
 
 -- the arrays when a round closes
 module _ (p : Plan) (before : List Area) (after : Core) where
-  pub areas-after-length : length (areasAfter p before after) ≡ 8
+  pub areas-after-length : length (areasAfter (layoutOf p) before after) ≡ 8
   unfolding areasAfter
-  areas-after-length = length-table 8 (areaAfter p before after) freshArea 8
+  areas-after-length = length-table 8 (areaAfter (layoutOf p) before after) freshArea 8
 
   pub devices-after-length : length (devicesAfter after) ≡ 4
   unfolding devicesAfter
   devices-after-length = length-table 4 (deviceAfter after) freeDevice 4
 
   pub waits-after : (a : ℕ) → a < 8 →
-      waitsIn (areasAfter p before after) a
+      waitsIn (areasAfter (layoutOf p) before after) a
       ≡ closed (isPending (jobIn before a)) (isPending (after .jobs a)) (waitOf (layoutOf p) after a) (waitsIn before a)
   unfolding areasAfter
-  waits-after a h = ap (λ x. x .waits) (table-at 8 (areaAfter p before after) freshArea 8 a freshArea h (omega arith))
+  waits-after a h = ap (λ x. x .waits) (table-at 8 (areaAfter (layoutOf p) before after) freshArea 8 a freshArea h (omega arith))
 
   -- they hold all of a core that has nothing past them
   pub core-after : ((a : ℕ) → 8 ≤ a → after .jobs a ≡ noJob) → ((d : ℕ) → 4 ≤ d → after .devices d ≡ Free) →
-      coreIn (areasAfter p before after) (devicesAfter after) ≡ after
+      coreIn (areasAfter (layoutOf p) before after) (devicesAfter after) ≡ after
   unfolding areasAfter devicesAfter
   core-after idle free = λ i. record { jobs = λ a. job a i; devices = λ d. state d i }
     where
-      job : (a : ℕ) → jobIn (areasAfter p before after) a ≡ after .jobs a
+      job : (a : ℕ) → jobIn (areasAfter (layoutOf p) before after) a ≡ after .jobs a
       job a =
           by-ltb a 8
-          (λ _ h. ap (λ x. x .job) (table-at 8 (areaAfter p before after) freshArea 8 a freshArea h (omega arith)))
-          (λ _ h. job-past (areasAfter p before after) a (omega (arith, areas-after-length)) ∙ sym (idle a h))
+          (λ _ h. ap (λ x. x .job) (table-at 8 (areaAfter (layoutOf p) before after) freshArea 8 a freshArea h (omega arith)))
+          (λ _ h. job-past (areasAfter (layoutOf p) before after) a (omega (arith, areas-after-length)) ∙ sym (idle a h))
 
       state : (d : ℕ) → stateIn (devicesAfter after) d ≡ after .devices d
       state d =

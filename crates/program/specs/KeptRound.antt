@@ -60,7 +60,7 @@ module _ (m : Manager) (h : History) (S : Stands (m .plan) m (withCore (coreOf m
 
   -- with the history's halves
   half-kept : Stands (m .plan)
-      (record { plan = m .plan; areas = areasAfter (m .plan) (m .areas) (half .core); devices = devicesAfter (half .core) })
+      (record { plan = m .plan; areas = areasAfter (layoutOf (m .plan)) (m .areas) (half .core); devices = devicesAfter (half .core) })
       (roundOf (m .plan) answers given (withCore (coreOf m) h))
   unfolding roundOf half
   half-kept =
@@ -80,7 +80,7 @@ module _ (m : Manager) (h : History) (S : Stands (m .plan) m (withCore (coreOf m
 
   -- with the manager's, which are the same
   pub round-kept : let e = halvesOf (m .plan) (m .areas) (m .devices) answers given .core in
-      Stands (m .plan) (record { plan = m .plan; areas = areasAfter (m .plan) (m .areas) e; devices = devicesAfter e })
+      Stands (m .plan) (record { plan = m .plan; areas = areasAfter (layoutOf (m .plan)) (m .areas) e; devices = devicesAfter e })
       (roundOf (m .plan) answers given (withCore (coreOf m) h))
   unfolding half
   round-kept = rw (ap (λ x. x .0) (halves-are m answers given h)) half-kept

@@ -7,7 +7,7 @@ use Rattle.arith.specs.Tables.{table}
 use Rattle.machine.specs.Sound.{jobIn, coreIn}
 use Rattle.memory.specs.declared.DeviceAnswer.{DeviceAnswer}
 use Rattle.plan.specs.declared.records.Plan.{Plan}
-use Rattle.rules.specs.Layout.{layoutOf}
+use Rattle.rules.specs.Layout.{Layout}
 use Rattle.rules.specs.Machine.{Core, Wait, own, above, below, locked, none, isPending, waitOf}
 use Rattle.rules.specs.Memory.{Memory}
 use Rattle.rules.specs.Round.{Half, roundHalves}
@@ -43,14 +43,14 @@ abbrev pub waitsIn : List Area → ℕ → Waits
 waitsIn l a = getD l a freshArea .waits
 
 -- area a of a manager when a round closes: `before` are the areas given, `after` what both halves made of jobs and devices
-abbrev pub areaAfter : Plan → List Area → Core → ℕ → Area
+abbrev pub areaAfter : Layout → List Area → Core → ℕ → Area
 areaAfter p before after a =
     record {
       job = after .jobs a;
-      waits = closed (isPending (jobIn before a)) (isPending (after .jobs a)) (waitOf (layoutOf p) after a) (waitsIn before a);
+      waits = closed (isPending (jobIn before a)) (isPending (after .jobs a)) (waitOf p after a) (waitsIn before a);
     }
 
-unfoldable pub areasAfter : Plan → List Area → Core → List Area
+unfoldable pub areasAfter : Layout → List Area → Core → List Area
 areasAfter p before after = table 8 (areaAfter p before after) freshArea 8
 
 abbrev pub deviceAfter : Core → ℕ → Device

@@ -5,7 +5,7 @@ use mathlib.Core.Logic.{_↔_, Iff·rfl}
 use mathlib.Core.Path.{_≡_, refl, sym, ap, _∙_}
 use native.Mathlib.Omega.{arith}
 use Rattle.arith.specs.Bounded.{below-suc}
-use Rattle.arith.specs.Cases.{pick, by-eqb}
+use Rattle.arith.specs.Cases.{pick, by-bool, by-eqb}
 use Rattle.arith.specs.Plain.{plain}
 use Rattle.memory.specs.declared.Task.{Task}
 use Rattle.rules.specs.Laws.{Laws}
@@ -60,17 +60,12 @@ module _ (p : Layout) (admits : ℕ → Task → Bool) (L : Laws p admits) where
         go true e h = below-suc a n l (λ g. rw g (better-not-below n x)) (λ k. better-keeps n a x (h k))
         go false e h = below-suc a n l (λ g. absurd (true≢false (sym r ∙ ap (ready p c d) g ∙ e))) h
 
-    -- and is one of them
-    pub best-ready : (n : ℕ) → Ready p c d (best p c d n)
-    unfolding best
-    best-ready zero = tt
-    best-ready (suc n) = go (ready p c d n) refl (best p c d n) (best-ready n)
-      where
-        go : (t : Bool) → ready p c d n ≡ t → (x : Choice) → Ready p c d x → Ready p c d (pick t (better p n x) x)
-        go true e nobody h = e
-        go true e (area b) h = pick-ready (p .outranks n b)
-          where
-            pick-ready : (t : Bool) → Ready p c d (pick t (area n) (area b))
-            pick-ready true = e
-            pick-ready false = h
-        go false e x h = h
+-- the choice among the areas before n is ready
+pub best-ready : (p : Layout) (c : Core) (d n : ℕ) → Ready p c d (best p c d n)
+unfolding best
+best-ready p c d zero = tt
+best-ready p c d (suc n) = by-bool (ready p c d n) (λ e. rw e (above (best p c d n) e (best-ready p c d n))) (λ e. rw e (best-ready p c d n))
+  where
+    above : (x : Choice) → ready p c d n ≡ true → Ready p c d x → Ready p c d (better p n x)
+    above nobody e f = e
+    above (area b) e f = by-bool (p .outranks n b) (λ g. rw g e) (λ g. rw g f)

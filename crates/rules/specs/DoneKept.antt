@@ -18,15 +18,16 @@ use Rattle.segment.specs.SegmentLaws.{Admitted}
 use Rattle.segment.specs.declared.Segment.{Segment}
 use Rattle.state.specs.declared.DeviceState.the-variants.{Runs}
 use Rattle.state.specs.declared.Job.{Job}
-use Rattle.rules.specs.Admitted.{job-admitted}
+use Rattle.rules.specs.Admitted.{job-admitted, cancel-admitted}
 use Rattle.rules.specs.Admission.{admits, jobNumber, releaseNumber, cancelNumber, roundNumber}
 use Rattle.rules.specs.History.{Call, submit, releases, cancels, asks, round, History, lent, start, roundOf, submitted, step, run}
 use Rattle.rules.specs.Layout.{layoutOf}
 use Rattle.rules.specs.Machine.{Core, isPending, begun, secondHalf, isOwn, waitOf, cancelIf, cancel, begin, release}
 use Rattle.rules.specs.PlanLaws.{admitted}
 use Rattle.rules.specs.Reachable.{Reachable}
+use Rattle.rules.specs.Requests.{running-on}
 use Rattle.rules.specs.Round.{Half, answerOf, verdictOn, takeAll, roundHalves}
-use Rattle.rules.specs.StepLaws.{take-case, running, untouched, start-case, accept-case, cancel-pending}
+use Rattle.rules.specs.StepLaws.{take-case, untouched, start-case, accept-case}
 use Rattle.rules.specs.Done.{DoneFits, begun-fits, ended-fits, cancelled-fits, taken-fits}
 
 -- of every area
@@ -58,7 +59,7 @@ module _ (p : Plan) (w : WellFormed p) where
       (λ q e.
       let runs = sym (same .device) ∙ e in
       taken-fits p a w (verdictOn p (Runs a q) x (before .core .jobs) (before .memory)) (ltb (q + 1) (layoutOf p .limit n))
-      (ap isPending (same .job a q runs) ∙ running r n runs .pending) (ih a))
+      (ap isPending (same .job a q runs) ∙ running-on r runs .pending) (ih a))
       (ih a)
 
   -- and so does the second
@@ -98,7 +99,7 @@ module _ (p : Plan) (w : WellFormed p) where
       f
   done-kept (releases a address n) h r f = accept-case (Fits p) (releaseNumber p (h .core) a address n) (λ _. f) f
   done-kept (cancels a) h r f =
-      accept-case (Fits p) (cancelNumber p (h .core) a) (λ e. cancel-fits a (h .core) (h .done) (cancel-pending p (h .core) a e) f) f
+      accept-case (Fits p) (cancelNumber p (h .core) a) (λ e. cancel-fits a (h .core) (h .done) (cancel-admitted p (h .core) a e) f) f
   done-kept (asks q) h r f = f
   done-kept (round answers m) h r f =
       accept-case (Fits p) (roundNumber p (m .image) (m .store))

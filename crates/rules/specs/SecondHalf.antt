@@ -105,7 +105,7 @@ module _ (p : Layout) (admits : ℕ → Task → Bool) (L : Laws p admits) (n : 
           lock false g = start-run b e i k g
 
       go : (x : DeviceState) → c .devices n ≡ x → Started p admits (p .devices) (suc n) c (startOn p n x c)
-      go Free e = choose e (best p c n (p .areas)) (best-ready p admits L c n (p .areas)) (best-not-below p admits L c n (p .areas))
+      go Free e = choose e (best p c n (p .areas)) (best-ready p c n (p .areas)) (best-not-below p admits L c n (p .areas))
       go (LockedFor b) e = start-none (λ a i k. rw e tt)
       go (Runs b q) e = start-none (λ a i k. rw e tt)
 

@@ -2,24 +2,24 @@
 use Prim.Native.Nat.{ℕ, zero, suc, _+_, _≤_}
 use mathlib.Core.Bool.{Bool, true, false}
 use mathlib.Core.List.{List, [], _∷_, _++_}
-use mathlib.Core.Path.{_≡_, refl, sym, subst, _∙_}
+use mathlib.Core.Path.{_≡_, refl, sym, _∙_}
 use native.Mathlib.Omega.{arith}
 use lib.Dec.{ltb, eqb}
-use Rattle.arith.specs.Cases.{pick, by-bool, by-eqb}
-use Rattle.arith.specs.FirstNo.{none-elim}
+use Rattle.arith.specs.Cases.{pick, by-eqb}
 use Rattle.arith.specs.Parts.{upd-same, upd-other, same-or}
 use Rattle.memory.specs.declared.DeviceAnswer.{DeviceAnswer}
-use Rattle.memory.specs.declared.Task.{Task}
 use Rattle.plan.specs.declared.records.Plan.{Plan}
 use Rattle.segment.specs.Segments.{isLock}
 use Rattle.segment.specs.declared.Segment.{Segment}
 use Rattle.state.specs.declared.DeviceState.{DeviceState}
 use Rattle.state.specs.declared.DeviceState.the-variants.{Free, Runs, LockedFor}
 use Rattle.state.specs.declared.Job.{Job}
-use Rattle.rules.specs.Admission.{admits, cancelQuestions, cancelNumber}
+use Rattle.rules.specs.Admission.{admits}
+use Rattle.rules.specs.Best.{Ready, best-ready}
 use Rattle.rules.specs.Layout.{Layout, layoutOf}
-use Rattle.rules.specs.Machine.{Core, isPending, Verdict, goesOn, finished, differs, failed, due, jobFailed, jobFinished, jobDiffers, takeRunning, takeOn, takeAnswer, withDevice, withBoth, ended, ready, Choice, nobody, area, better, best, startJob, startChoice, startOn, start}
-use Rattle.rules.specs.Reachable.{Running, DeviceFits, Reachable}
+use Rattle.rules.specs.Machine.{Core, Verdict, goesOn, finished, differs, failed, due, jobFailed, jobFinished, jobDiffers, takeRunning, takeOn, takeAnswer, withDevice, withBoth, ended, ready, Choice, nobody, area, best, startJob, startChoice, startOn, start}
+use Rattle.rules.specs.Reachable.{Reachable}
+use Rattle.rules.specs.Requests.{running-on}
 use Rattle.rules.specs.Round.{Half, answerOf, verdictOn, addDone, doneOn, takeIn, takeAll}
 
 -- the job whose request takes an answer. Tests: the verdict; are polls below the limit?
@@ -90,11 +90,6 @@ module _ (p : Plan) (d : ℕ) (x : DeviceAnswer) (h : Half) (a : ℕ) where
           (λ f e. take-other P (layoutOf p) d a b q (s b) (h .core) (h .done) (v b q) (t q) (λ g. f (sym g)) rests)
           e
 
--- a device that runs a request runs that of a pending job, which needs the device
-pub running : {p : Layout} {admits : ℕ → Task → Bool} {c : Core} → Reachable p admits c → (d : ℕ) {a q : ℕ} → c .devices d ≡ Runs a q →
-    Running p d a q (c .jobs a)
-running {p} {admits} {c} r d e = subst (DeviceFits p (c .jobs) d) e (r .devices d)
-
 -- a device's answer leaves the other devices
 take-leaves : (p : Layout) (d k : ℕ) (v : Verdict) (c : Core) → (d ≡ k → ⊥) → takeAnswer p d v c .devices k ≡ c .devices k
 unfolding takeAnswer
@@ -129,25 +124,10 @@ module _ (p : Plan) (answers : List DeviceAnswer) (h : Half) (r : Reachable (lay
         job = λ a q e.
             take-case p n (answerOf answers n) (takeAll p answers n h) a (λ j _. j ≡ h .core .jobs a)
             (λ _ f.
-            let other = running r n (sym (untouched n n (omega arith) .device) ∙ f) .needed in
-            absurd (omega (arith, running r d e .needed)))
+            let other = running-on r (sym (untouched n n (omega arith) .device) ∙ f) .needed in
+            absurd (omega (arith, running-on r e .needed)))
             (before .job a q e);
       }
-
--- an area, if any, that is ready
-abbrev IsReady : Layout → Core → ℕ → Choice → Type 0
-IsReady p c d nobody = Unit {0}
-IsReady p c d (area a) = ready p c d a ≡ true
-
--- the one that is picked is
-best-ready : (p : Layout) (c : Core) (d n : ℕ) → IsReady p c d (best p c d n)
-unfolding best
-best-ready p c d zero = tt
-best-ready p c d (suc n) = by-bool (ready p c d n) (λ e. rw e (above (best p c d n) e (best-ready p c d n))) (λ e. rw e (best-ready p c d n))
-  where
-    above : (x : Choice) → ready p c d n ≡ true → IsReady p c d x → IsReady p c d (better p n x)
-    above nobody e f = e
-    above (area b) e f = by-bool (p .outranks n b) (λ g. rw g e) (λ g. rw g f)
 
 module _ (P : Core → Type 0) (p : Layout) (d : ℕ) (c : Core) where
   -- device d starts nothing, is locked for an area that is ready, or starts a request
@@ -162,7 +142,7 @@ module _ (P : Core → Type 0) (p : Layout) (d : ℕ) (c : Core) where
       given a e r true k = locks a e r k
       given a e r false k = runs a e
 
-      picked : (x : Choice) → c .devices d ≡ Free → IsReady p c d x → P (startChoice d x c)
+      picked : (x : Choice) → c .devices d ≡ Free → Ready p c d x → P (startChoice d x c)
       picked nobody e r = stays
       picked (area a) e r = given a e r _ refl
 
@@ -174,8 +154,3 @@ module _ (P : Core → Type 0) (p : Layout) (d : ℕ) (c : Core) where
 -- a call is accepted, or refused
 pub accept-case : {A : Type 0} (P : A → Type 0) (n : ℕ) {x y : A} → (n ≡ 0 → P x) → P y → P (pick (eqb n 0) x y)
 accept-case P n f g = by-eqb n 0 (λ e z. rw e (f z)) (λ e _. rw e g)
-
--- question 17
-pub cancel-pending : (p : Plan) (c : Core) (a : ℕ) → cancelNumber p c a ≡ 0 → isPending (c .jobs a) ≡ true
-unfolding cancelNumber cancelQuestions
-cancel-pending p c a e = none-elim 10 _ (omega arith) e 7 (omega arith)

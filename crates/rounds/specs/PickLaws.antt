@@ -1,0 +1,132 @@
+-- The second half of a round: the code's choice is that of the rules.
+use Prim.Native.Nat.{ℕ, zero, suc, _+_, _≤_, _<_}
+use mathlib.Core.Bool.{Bool, true, false, _&&_, false≢true, true≢false}
+use mathlib.Core.List.{List}
+use mathlib.Core.Path.{_≡_, refl, sym, ap, subst, _∙_}
+use native.Mathlib.Numerals.{add-one}
+use native.Mathlib.Omega.{arith}
+use lib.Dec.{ltb, eqb}
+use lib.ListN.{length, getD, set}
+use Rattle.arith.specs.Bounded.{below-suc}
+use Rattle.arith.specs.Cases.{pick, by-bool}
+use Rattle.machine.specs.Arrays.{state-set}
+use Rattle.machine.specs.Sound.{jobIn, stateIn, coreIn}
+use Rattle.plan.specs.Questions.{areaOf}
+use Rattle.plan.specs.declared.records.AreaRecord.{AreaRecord}
+use Rattle.rules.specs.Layout.{Layout, ranksAbove}
+use Rattle.rules.specs.Machine.{Core, Choice, nobody, area, withDevice, ended, isPending, ready, better, best, startJob, startChoice, startOn, start, secondHalf}
+use Rattle.segment.specs.Segments.{isLock}
+use Rattle.state.specs.declared.Area.{Area}
+use Rattle.state.specs.declared.Device.{Device}
+use Rattle.state.specs.declared.DeviceState.{DeviceState}
+use Rattle.state.specs.declared.DeviceState.the-variants.{Free, Runs, LockedFor}
+use Rattle.rounds.specs.AnswerLaws.{core-set}
+use Rattle.rounds.specs.Picks.{needsLayout, rankAbove, betterOf, bestTo, readyIn, isFree}
+use Rattle.rounds.specs.declared.picks.Best.{Best}
+use Rattle.rounds.specs.declared.picks.Best.the-variants as Bests
+
+-- a choice with the area's priority beside it
+abbrev withPriority : List AreaRecord → Choice → Best
+withPriority records nobody = Bests.Nobody
+withPriority records (area a) = Bests.Area a (areaOf records a .priority)
+
+abbrev isArea : Best → Bool
+isArea Bests.Nobody = false
+isArea (Bests.Area a q) = true
+
+abbrev areaIn : ℕ → Best → ℕ
+areaIn z Bests.Nobody = z
+areaIn z (Bests.Area a q) = a
+
+module _ (records : List AreaRecord) (count : ℕ) (needs : List ℕ) (d : ℕ) (areas : List Area) (devices : List Device) where
+  abbrev layout : Layout
+  layout = needsLayout records count needs
+
+  better-same : (a : ℕ) (x : Choice) → betterOf a (areaOf records a .priority) (withPriority records x) ≡ withPriority records (better layout a x)
+  unfolding needsLayout ranksAbove
+  better-same a nobody = refl
+  better-same a (area b) = by-bool (ranksAbove (λ i. areaOf records i .priority) a b) (λ e. rw e) (λ e. rw e)
+
+  best-same : (n : ℕ) → bestTo records (readyIn needs areas d) n ≡ withPriority records (best layout (coreIn areas devices) d n)
+  unfolding needsLayout bestTo best ready
+  best-same zero = refl
+  best-same (suc a) =
+      let more = ap (betterOf a (areaOf records a .priority)) (best-same a) ∙ better-same a (best layout (coreIn areas devices) d a) in
+      by-bool (readyIn needs areas d a) (λ e. rw e more) (λ e. rw e (best-same a))
+
+  -- what the code found is the rules' choice
+  chosen-nobody : (x : Choice) → withPriority records x ≡ Bests.Nobody → x ≡ nobody
+  chosen-nobody nobody e = refl
+  chosen-nobody (area a) e = absurd (true≢false (ap isArea e))
+
+  chosen-area : (x : Choice) (a q : ℕ) → withPriority records x ≡ Bests.Area a q → x ≡ area a
+  chosen-area nobody a q e = absurd (false≢true (ap isArea e))
+  chosen-area (area b) a q e = ap area (ap (areaIn b) e)
+
+  -- a device that is not free starts nothing
+  pub busy-start : isFree (stateIn devices d) ≡ false → coreIn areas devices ≡ start layout d (coreIn areas devices)
+  unfolding start
+  busy-start e = go (stateIn devices d) refl
+    where
+      go : (x : DeviceState) → stateIn devices d ≡ x → coreIn areas devices ≡ startOn layout d x (coreIn areas devices)
+      go Free f = absurd (true≢false (sym (ap isFree f) ∙ e))
+      go (Runs a polls) f = refl
+      go (LockedFor a) f = refl
+
+  module _ (free : isFree (stateIn devices d) ≡ true) (b : Best) (is : b ≡ bestTo records (readyIn needs areas d) count) where
+    free-start : (x : Choice) → best layout (coreIn areas devices) d count ≡ x → startChoice d x (coreIn areas devices) ≡ start layout d (coreIn areas devices)
+    unfolding start needsLayout
+    free-start x e = go (stateIn devices d) refl
+      where
+        go : (y : DeviceState) → stateIn devices d ≡ y → startChoice d x (coreIn areas devices) ≡ startOn layout d y (coreIn areas devices)
+        go Free f = rw e
+        go (Runs a polls) f = absurd (false≢true (sym (ap isFree f) ∙ free))
+        go (LockedFor a) f = absurd (false≢true (sym (ap isFree f) ∙ free))
+
+    pub nobody-start : b ≡ Bests.Nobody → coreIn areas devices ≡ start layout d (coreIn areas devices)
+    nobody-start e = free-start nobody (chosen-nobody _ (sym (best-same count) ∙ sym is ∙ e))
+
+    pub area-start : (a q : ℕ) → b ≡ Bests.Area a q → (c : Core) → c ≡ startJob d a (isLock (jobIn areas a .task .kind)) (coreIn areas devices) →
+        c ≡ start layout d (coreIn areas devices)
+    area-start a q e c f = f ∙ free-start (area a) (chosen-area _ a q (sym (best-same count) ∙ sym is ∙ e))
+
+-- the choice is one of the areas looked at
+abbrev Below : ℕ → Best → Type 0
+Below n Bests.Nobody = 0 ≤ n
+Below n (Bests.Area a q) = a < n
+
+module _ (records : List AreaRecord) (ready : ℕ → Bool) where
+  more-below : (n : ℕ) (b : Best) → Below n b → Below (suc n) b
+  more-below n Bests.Nobody h = omega arith
+  more-below n (Bests.Area a q) h = omega arith
+
+  better-below : (n q : ℕ) (b : Best) → Below n b → Below (suc n) (betterOf n q b)
+  better-below n q Bests.Nobody h = omega arith
+  better-below n q (Bests.Area a r) h = by-bool (rankAbove q n r a) (λ e. rw e (omega arith)) (λ e. rw e (omega arith))
+
+  best-within : (n : ℕ) → Below n (bestTo records ready n)
+  unfolding bestTo
+  best-within zero = omega arith
+  best-within (suc a) =
+      by-bool (ready a)
+      (λ e. rw e (better-below a (areaOf records a .priority) (bestTo records ready a) (best-within a)))
+      (λ e. rw e (more-below a (bestTo records ready a) (best-within a)))
+
+  pub best-below : (n : ℕ) (b : Best) → b ≡ bestTo records ready n → (a q : ℕ) → b ≡ Bests.Area a q → a < n
+  best-below n b is a q e = subst (Below n) (sym is ∙ e) (best-within n)
+
+-- a job started on a free device
+module _ (d a : ℕ) (areas : List Area) (devices : List Device) (there : d < length devices) where
+  pub lock-start : (x : Area) (y : Device) → a < length areas → isLock (jobIn areas a .task .kind) ≡ true → x .job ≡ ended 0 (jobIn areas a) →
+      y .state ≡ LockedFor a →
+      coreIn (set areas a x) (set devices d y) ≡ startJob d a (isLock (jobIn areas a .task .kind)) (coreIn areas devices)
+  lock-start x y h k e f = core-set areas devices a x d y h there ∙ rw (k, e, f)
+
+  pub run-start : (y : Device) → isLock (jobIn areas a .task .kind) ≡ false → y .state ≡ Runs a 0 →
+      coreIn areas (set devices d y) ≡ startJob d a (isLock (jobIn areas a .task .kind)) (coreIn areas devices)
+  run-start y k f = (λ i. record { jobs = jobIn areas; devices = state-set devices d y there i }) ∙ rw (k, f)
+
+-- a turn of the loop over the devices
+pub second-turn : (p : Layout) (n : ℕ) (c e next : Core) → e ≡ secondHalf p n c → next ≡ start p n e → next ≡ secondHalf p (n + 1) c
+unfolding secondHalf
+second-turn p n c e next f g = rw add-one (g ∙ ap (start p n) f)

@@ -1,0 +1,151 @@
+// The close of a round: each job that was pending before it and still is adds 1 to one count.
+ghost use mathlib.Core.Bool.{Bool};
+ghost use mathlib.Core.Path.{_≡_};
+ghost use Prim.Native.Nat.{_<_};
+ghost use lib.ListN.{getD};
+ghost use Rattle.machine.specs.Sound.{coreIn, stateIn};
+ghost use Rattle.plan.specs.Questions.{areaOf};
+ghost use Rattle.rules.specs.Machine.{behind, waitOn, isPending};
+ghost use Rattle.rounds.specs.Close.{stick, counted, closed, areasAfter};
+ghost use Rattle.rounds.specs.CloseLaws.{waitIs, rankLayout, closedArea};
+ghost use Rattle.rounds.specs.Picks.{needsLayout};
+use crate::picks::ranks_above;
+use machine::devices::state_on;
+use machine::jobs::is_pending;
+use plan::records::AreaRecord;
+use state::Area;
+use state::Device;
+use state::DeviceState;
+use state::Waits;
+
+// What a pending job waits for.
+pub enum Wait {
+    Own,
+    Above,
+    Below,
+    Locked,
+    Nothing,
+}
+
+fn stick(count: u32) -> u32
+    ensures { λ r. ⌜ r ≡ stick count ⌝ }
+{
+    if count == 4294967295 {
+        return count;
+    }
+    count + 1
+}
+
+fn counted(wait: Wait, waits: Waits) -> Waits
+    ensures { λ r. ⌜ r ≡ counted (waitIs wait) waits ⌝ }
+{
+    match wait {
+        Wait::Own => Waits {
+            own: stick(waits.own),
+            above: waits.above,
+            below: waits.below,
+            locked: waits.locked,
+        },
+        Wait::Above => Waits {
+            own: waits.own,
+            above: stick(waits.above),
+            below: waits.below,
+            locked: waits.locked,
+        },
+        Wait::Below => Waits {
+            own: waits.own,
+            above: waits.above,
+            below: stick(waits.below),
+            locked: waits.locked,
+        },
+        Wait::Locked => Waits {
+            own: waits.own,
+            above: waits.above,
+            below: waits.below,
+            locked: stick(waits.locked),
+        },
+        Wait::Nothing => waits,
+    }
+}
+
+fn priority_of(records: [AreaRecord; 8], area: usize) -> u16
+    ensures { λ r. ⌜ r ≡ areaOf records area .priority ⌝ }
+{
+    if 8 <= area {
+        return 0;
+    }
+    let record = records[area];
+    record.priority
+}
+
+// An area behind a request of another, or its own.
+fn wait_behind(records: [AreaRecord; 8], area: u8, runner: u8) -> Wait
+    ensures { λ r. ⌜ waitIs r ≡ behind (rankLayout records) area runner ⌝ }
+{
+    if runner == area {
+        return Wait::Own;
+    }
+    let runner_priority = priority_of(records, runner as usize);
+    let priority = priority_of(records, area as usize);
+    if ranks_above(runner_priority, runner, priority, area) {
+        return Wait::Above;
+    }
+    Wait::Below
+}
+
+fn wait_on(records: [AreaRecord; 8], area: u8, state: DeviceState) -> Wait
+    ensures { λ r. ⌜ waitIs r ≡ waitOn (rankLayout records) area state ⌝ }
+{
+    match state {
+        DeviceState::Free => Wait::Nothing,
+        DeviceState::LockedFor(_) => Wait::Locked,
+        DeviceState::Runs {
+            area: runner,
+            polls: _,
+        } => wait_behind(records, area, runner),
+    }
+}
+
+// An area when the round closes; `state` is that of the device that its job needs.
+fn closed_area(
+    records: [AreaRecord; 8],
+    number: u8,
+    before: Area,
+    after: Area,
+    state: DeviceState,
+) -> Area
+    ensures { λ r. ⌜ r ≡ closedArea records number before after state ⌝ }
+{
+    let job = after.job;
+    let waits = before.waits;
+    let old = before.job;
+    if !is_pending(old) {
+        return Area { job, waits };
+    }
+    if !is_pending(job) {
+        return Area { job, waits };
+    }
+    let wait = wait_on(records, number, state);
+    let waits = counted(wait, waits);
+    Area { job, waits }
+}
+
+// All areas when the round closes: `before` are those before it, `after` those after both halves.
+pub fn close(
+    records: [AreaRecord; 8],
+    needs: [u8; 8],
+    before: [Area; 8],
+    after: [Area; 8],
+    devices: [Device; 4],
+) -> [Area; 8]
+    ensures { λ r. ⌜ r ≡ areasAfter (needsLayout records 0 needs) before (coreIn after devices) ⌝ }
+{
+    let mut areas = [Area::fresh(); 8];
+    let mut a = 0;
+    while a < 8 {
+        let state = state_on(devices, needs[a] as usize);
+        areas[a] = closed_area(records, a as u8, before[a], after[a], state);
+        a += 1;
+    }
+    areas
+}

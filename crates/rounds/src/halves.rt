@@ -1,0 +1,51 @@
+// A whole round on what moves in a manager.
+ghost use mathlib.Core.Bool.{true};
+ghost use mathlib.Core.Path.{_≡_};
+ghost use Rattle.machine.specs.Sound.{isSound};
+ghost use Rattle.rules.specs.Admission.{imageFits, storeReaches};
+ghost use Rattle.rules.specs.Layout.{layoutOf};
+ghost use Rattle.rounds.specs.Close.{areasAfter, devicesAfter, halvesOf};
+ghost use Rattle.rounds.specs.Effects.{memoryOf};
+use crate::answers::Arrays;
+use crate::answers::first_half;
+use crate::close::close;
+use crate::picks::needed_devices;
+use crate::picks::second_half;
+use memory::DeviceAnswer;
+use plan::records::Plan;
+use state::Area;
+use state::Device;
+
+// Both halves, then the close.
+pub fn run_round(
+    plan: Plan,
+    answers: [DeviceAnswer; 4],
+    areas: [Area; 8],
+    devices: [Device; 4],
+    image: &mut [u8],
+    store: &mut [u8],
+) -> Arrays
+    requires { ⌜ (isSound plan areas devices ≡ true) × (imageFits plan (now image) ≡ true) × (storeReaches plan (now store) ≡ true) ⌝ }
+    ensures { λ r. ⌜ r .areas ≡ areasAfter (layoutOf plan) areas (halvesOf plan areas devices answers (memoryOf (now (image .entry)) (now (store .entry))) .core) ⌝ }
+    ensures { λ r. ⌜ r .devices ≡ devicesAfter (halvesOf plan areas devices answers (memoryOf (now (image .entry)) (now (store .entry))) .core) ⌝ }
+    ensures { λ _. ⌜ now (image .exit) ≡ halvesOf plan areas devices answers (memoryOf (now (image .entry)) (now (store .entry))) .memory .image ⌝ }
+    ensures { λ _. ⌜ now (store .exit) ≡ halvesOf plan areas devices answers (memoryOf (now (image .entry)) (now (store .entry))) .memory .store ⌝ }
+{
+    let first = first_half(plan, answers, areas, devices, image, store);
+    let taken = first.areas;
+    let free = first.devices;
+    let needs = needed_devices(plan, taken);
+    let records = plan.areas;
+    let second = second_half(
+        records,
+        plan.area_count,
+        needs,
+        plan.device_count,
+        taken,
+        free,
+    );
+    let started = second.areas;
+    let devices = second.devices;
+    let areas = close(records, needs, areas, started, devices);
+    Arrays { areas, devices }
+}
