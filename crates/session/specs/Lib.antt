@@ -1,3 +1,5 @@
 pub mod PlanText
 pub mod Play
 pub mod PlayLaws
+pub mod Fold
+pub mod FoldLaws

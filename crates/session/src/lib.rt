@@ -4,6 +4,7 @@ ghost use Prim.Native.Nat.{_≤_};
 ghost use lib.ListN.{length, take};
 ghost use Rattle.session.specs.PlanText.{lineOf, planText};
 
+pub mod fold;
 pub mod play;
 
 use manager::Manager;
