@@ -1,6 +1,11 @@
 -- The calls by the cases that the code takes apart.
+use Rattle.state.specs.declared.Device.{Device}
+use Rattle.state.specs.declared.Area.{Area}
+use Rattle.rules.specs.Memory.{Memory}
+use Rattle.memory.specs.declared.DeviceAnswer.{DeviceAnswer}
+use Rattle.arith.specs.Cases.{by-bool}
 use Prim.Native.Nat.{ℕ, _≤_, _<_}
-use mathlib.Core.Bool.{Bool, false}
+use mathlib.Core.Bool.{Bool, false, true}
 use mathlib.Core.List.{List, _∷_}
 use mathlib.Core.Path.{_≡_, sym, ap, _∙_}
 use native.Mathlib.Omega.{arith}
@@ -16,9 +21,9 @@ use Rattle.memory.specs.declared.Refusal.{Refusal}
 use Rattle.memory.specs.declared.LogicalAddress.{LogicalAddress}
 use Rattle.memory.specs.declared.Task.{Task}
 use Rattle.machine.specs.DeviceLaws.{lock-known}
-use Rattle.machine.specs.Sound.{jobIn, sound-few}
-use Rattle.rounds.specs.Close.{waitsIn}
-use Rattle.rules.specs.Admission.{isKnown, rangeDevice, jobQuestions, releaseQuestions, cancelQuestions, infoQuestions, memoryInfoQuestions}
+use Rattle.machine.specs.Sound.{jobIn, sound-few, isSound}
+use Rattle.rounds.specs.Close.{waitsIn, areasAfter, devicesAfter, halvesOf}
+use Rattle.rules.specs.Admission.{isKnown, rangeDevice, jobQuestions, releaseQuestions, cancelQuestions, infoQuestions, memoryInfoQuestions, imageFits, storeReaches, roundNumber}
 use Rattle.rules.specs.Layout.{layoutOf}
 use Rattle.rules.specs.Machine.{begun, begin, cancel, release}
 use Rattle.rules.specs.Queries.{jobInfoOf, noMemoryInfo, memoryInfoOf}
@@ -26,7 +31,7 @@ use Rattle.state.specs.Fresh.{noWaits}
 use Rattle.state.specs.declared.DeviceState.the-variants.{Free}
 use Rattle.state.specs.declared.Job.{Job}
 use Rattle.state.specs.declared.Waits.{Waits}
-use Rattle.manager.specs.Calls.{coreOf, numberOf, withArea, withDevice, jobNumberOf, afterJob, releaseNumberOf, afterRelease, cancelNumberOf, afterCancel, infoNumberOf, statusOf, resultOf, processedOf, noJobInfo, infoOf, memoryInfoNumberOf, memoryOfArea}
+use Rattle.manager.specs.Calls.{coreOf, numberOf, withArea, withDevice, jobNumberOf, afterJob, releaseNumberOf, afterRelease, cancelNumberOf, afterCancel, infoNumberOf, statusOf, resultOf, processedOf, noJobInfo, infoOf, memoryInfoNumberOf, memoryOfArea, roundNumberOf, afterRound, memoryAfterRound}
 use Rattle.manager.specs.declared.Manager.{Manager}
 
 -- a call that is refused, with that number
@@ -144,3 +149,33 @@ module _ (m : Manager) (a : ℕ) (address : LogicalAddress) where
   pub memory-accepted : memoryInfoNumberOf m a address ≡ 0 → memoryInfoOf (m .plan) a address ≡ memoryOfArea m a address
   unfolding memoryOfArea
   memory-accepted e = rw (eq-eqb (memoryInfoNumberOf m a address) 0 e)
+
+-- a round
+module _ (m : Manager) (answers : List DeviceAnswer) (lent : Memory) where
+  pub round-asked : roundNumberOf m lent ≡ 0 →
+      (isSound (m .plan) (m .areas) (m .devices) ≡ true) × (imageFits (m .plan) (lent .image) ≡ true) × (storeReaches (m .plan) (lent .store) ≡ true)
+  unfolding roundNumberOf roundNumber
+  round-asked e =
+      by-bool (isSound (m .plan) (m .areas) (m .devices))
+      (λ s. let yes = none-elim 18 _ (omega arith) (rw s at e) in (s, yes 0 (omega arith), yes 1 (omega arith)))
+      (λ s. absurd (omega (arith, rw s at e)))
+
+  pub round-refused : eqb (roundNumberOf m lent) 0 ≡ false → m ≡ afterRound m answers lent
+  unfolding afterRound
+  round-refused e = rw e
+
+  pub round-memory-refused : eqb (roundNumberOf m lent) 0 ≡ false → lent ≡ memoryAfterRound m answers lent
+  unfolding memoryAfterRound
+  round-memory-refused e = rw e
+
+  module _ (e : roundNumberOf m lent ≡ 0) where
+    pub round-accepted : (areas : List Area) (devices : List Device) →
+        areas ≡ areasAfter (layoutOf (m .plan)) (m .areas) (halvesOf (m .plan) (m .areas) (m .devices) answers lent .core) →
+        devices ≡ devicesAfter (halvesOf (m .plan) (m .areas) (m .devices) answers lent .core) →
+        record { plan = m .plan; areas = areas; devices = devices } ≡ afterRound m answers lent
+    unfolding afterRound
+    round-accepted areas devices f g = rw (eq-eqb (roundNumberOf m lent) 0 e) (λ i. record { plan = m .plan; areas = f i; devices = g i })
+
+    pub round-memory-accepted : halvesOf (m .plan) (m .areas) (m .devices) answers lent .memory ≡ memoryAfterRound m answers lent
+    unfolding memoryAfterRound
+    round-memory-accepted = rw (eq-eqb (roundNumberOf m lent) 0 e)

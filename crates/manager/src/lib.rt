@@ -4,9 +4,10 @@ ghost use Rattle.memory.specs.Numbers.{admissionNumber};
 ghost use Rattle.plan.specs.Questions.{loadNumber};
 ghost use Prim.Native.Nat.{_<_};
 ghost use Rattle.memory.specs.declared.JobType.the-variants.{Write, Read, Compare, Erase, BlankCheck, Lock};
-ghost use Rattle.manager.specs.Calls.{withArea, withDevice, jobNumberOf, afterJob, releaseNumberOf, afterRelease, cancelNumberOf, afterCancel, infoNumberOf, statusOf, resultOf, processedOf, noJobInfo, infoOf, memoryInfoNumberOf, memoryOfArea};
+ghost use Rattle.manager.specs.Calls.{withArea, withDevice, jobNumberOf, afterJob, releaseNumberOf, afterRelease, cancelNumberOf, afterCancel, infoNumberOf, statusOf, resultOf, processedOf, noJobInfo, infoOf, memoryInfoNumberOf, memoryOfArea, roundNumberOf, afterRound, memoryAfterRound};
 ghost use Rattle.machine.specs.Sound.{jobIn};
 ghost use Rattle.rounds.specs.Close.{waitsIn};
+ghost use Rattle.rounds.specs.Effects.{memoryOf};
 ghost use Rattle.manager.specs.Load.{freshManager, loadedManager};
 use admission::range_device;
 use machine::devices::begun_job;
@@ -20,13 +21,16 @@ use machine::questions::info_admission;
 use machine::questions::job_admission;
 use machine::questions::memory_admission;
 use machine::questions::release_admission;
+use machine::questions::round_admission;
 use memory::Admission;
+use memory::DeviceAnswer;
 use memory::JobResult;
 use memory::JobType;
 use memory::LogicalAddress;
 use memory::Task;
 use plan::load::load_plan;
 use plan::records::Plan;
+use rounds::halves::run_round;
 use state::Area;
 use state::Device;
 use state::DeviceState;
@@ -412,6 +416,36 @@ impl Manager {
             Admission::Accepted => {
                 let info = memory_info(plan, area, address);
                 MemoryInfoAnswer { answer, info }
+            }
+        }
+    }
+
+    // A round takes the four answers of its devices, one each, and is lent image and job store.
+    pub fn round(self, answers: [DeviceAnswer; 4], image: &mut [u8], store: &mut [u8]) -> Answered
+        ensures { λ r. ⌜ admissionNumber (r .answer) ≡ roundNumberOf self (memoryOf (now (image .entry)) (now (store .entry))) ⌝ }
+        ensures { λ r. ⌜ r .manager ≡ afterRound self answers (memoryOf (now (image .entry)) (now (store .entry))) ⌝ }
+        ensures { λ _. ⌜ now (image .exit) ≡ memoryAfterRound self answers (memoryOf (now (image .entry)) (now (store .entry))) .image ⌝ }
+        ensures { λ _. ⌜ now (store .exit) ≡ memoryAfterRound self answers (memoryOf (now (image .entry)) (now (store .entry))) .store ⌝ }
+    {
+        let plan = self.plan;
+        let areas = self.areas;
+        let devices = self.devices;
+        let answer = round_admission(plan, areas, devices, image, store);
+        match answer {
+            Admission::Refused(_) => Answered {
+                answer,
+                manager: self,
+            },
+            Admission::Accepted => {
+                let next = run_round(plan, answers, areas, devices, image, store);
+                let areas = next.areas;
+                let devices = next.devices;
+                let manager = Manager {
+                    plan,
+                    areas,
+                    devices,
+                };
+                Answered { answer, manager }
             }
         }
     }
