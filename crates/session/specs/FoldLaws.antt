@@ -10,20 +10,21 @@ use lib.ListN.{length, take, length-take, length-drop}
 use lib.Seq.{length-take-le}
 use Rattle.lines.specs.Fields.{isLast, word}
 use Rattle.manager.specs.declared.Manager.{Manager}
+use Rattle.rounds.specs.Effects.{memoryOf}
 use Rattle.rules.specs.Memory.{Memory}
 use Rattle.texts.specs.Appended.{Appended}
 use Rattle.session.specs.Fold.{Session, played, playedLast, hasRoom, playedLines}
 use Rattle.session.specs.Play.{playedText, playedManager, playedMemory}
 
 abbrev pub sessionOf : Manager → List ℕ → List ℕ → List ℕ → ℕ → ℕ → Session
-sessionOf m image store out end used = record { manager = m; memory = record { image = image; store = store }; printed = take end out; used = used }
+sessionOf m image store out end used = record { manager = m; memory = memoryOf image store; printed = take end out; used = used }
 
 -- a line's answer behind what was printed
 pub played-more : (m next : Manager) (image store image' store' out out' l : List ℕ) (end end' used used' n : ℕ) →
-    next ≡ playedManager m l (record { image = image; store = store }) →
-    image' ≡ playedMemory m l (record { image = image; store = store }) .image →
-    store' ≡ playedMemory m l (record { image = image; store = store }) .store →
-    Appended out out' end end' (playedText m l (record { image = image; store = store })) → used' ≡ used + n →
+    next ≡ playedManager m l (memoryOf image store) →
+    image' ≡ playedMemory m l (memoryOf image store) .image →
+    store' ≡ playedMemory m l (memoryOf image store) .store →
+    Appended out out' end end' (playedText m l (memoryOf image store)) → used' ≡ used + n →
     sessionOf next image' store' out' end' used' ≡ played n l (sessionOf m image store out end used)
 played-more m next image store image' store' out out' l end end' used used' n e f g p u = rw (e, f, g, p .bytes, u)
 

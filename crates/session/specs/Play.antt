@@ -63,25 +63,24 @@ roundText n after = ifAccepted n (devicesLine (after .plan) (coreOf after)) (num
 abbrev pub fourAnswers : DeviceAnswer → DeviceAnswer → DeviceAnswer → DeviceAnswer → List DeviceAnswer
 fourAnswers a b c d = a ∷ b ∷ c ∷ d ∷ []
 
--- Rounds are left out until the manager makes them: such a line prints "?".
 -- "each prints its number, but accepted info prints" its values; "A line of another type .. prints '?'"
 abbrev pub textOfLine : Line → Manager → Memory → List ℕ
 textOfLine Unreadable m lent = questionLine
 textOfLine (Call x) m lent = numberLine (numberOfCall x m)
 textOfLine (Info a) m lent = infoText (infoNumberOf m a) (infoOf m a)
-textOfLine (Round a b c d) m lent = questionLine
+textOfLine (Round a b c d) m lent = roundText (roundNumberOf m lent) (afterRound m (fourAnswers a b c d) lent)
 
 abbrev pub afterLine : Line → Manager → Memory → Manager
 afterLine Unreadable m lent = m
 afterLine (Call x) m lent = afterCall x m
 afterLine (Info a) m lent = m
-afterLine (Round a b c d) m lent = m
+afterLine (Round a b c d) m lent = afterRound m (fourAnswers a b c d) lent
 
 abbrev pub memoryAfterLine : Line → Manager → Memory → Memory
 memoryAfterLine Unreadable m lent = lent
 memoryAfterLine (Call x) m lent = lent
 memoryAfterLine (Info a) m lent = lent
-memoryAfterLine (Round a b c d) m lent = lent
+memoryAfterLine (Round a b c d) m lent = memoryAfterRound m (fourAnswers a b c d) lent
 
 -- the bytes of a line, without its end
 abbrev pub lineIn : Manager → List ℕ → Line

@@ -10,11 +10,11 @@ use Rattle.texts.specs.Texts.{numberLine, questionLine, infoLine}
 use Rattle.lines.specs.declared.Line.{Line}
 use Rattle.lines.specs.declared.Line.the-variants.{Unreadable, Call, Info, Round}
 use Rattle.lines.specs.declared.LineCall.{LineCall}
-use Rattle.manager.specs.Calls.{infoNumberOf, infoOf}
+use Rattle.manager.specs.Calls.{infoNumberOf, infoOf, roundNumberOf, afterRound, memoryAfterRound}
 use Rattle.manager.specs.declared.Manager.{Manager}
 use Rattle.memory.specs.declared.DeviceAnswer.{DeviceAnswer}
 use Rattle.rules.specs.Memory.{Memory}
-use Rattle.session.specs.Play.{numberOfCall, afterCall, infoText, textOfLine, afterLine, memoryAfterLine, lineIn, playedText, playedManager, playedMemory}
+use Rattle.session.specs.Play.{numberOfCall, afterCall, infoText, roundText, fourAnswers, textOfLine, afterLine, memoryAfterLine, lineIn, playedText, playedManager, playedMemory}
 
 module _ {a b : List ℕ} {i j : ℕ} (n m : ℕ) (e : m ≡ n) (x y : JobInfo) (f : x ≡ y) where
   pub info-refused : 0 < m → Appended a b i j (numberLine m) → Appended a b i j (infoText n y)
@@ -45,8 +45,10 @@ module _ (l : Line) (m next : Manager) (lent : Memory) {a b : List ℕ} {i j : �
   pub info-done : (x : ℕ) → l ≡ Info x → Appended a b i j (infoText (infoNumberOf m x) (infoOf m x)) → LineDone l m m lent lent a b i j
   info-done x e p = rw e (refl, (refl, (refl, (p, few))))
 
-  pub round-left-out : (x y z w : DeviceAnswer) → l ≡ Round x y z w → Appended a b i j questionLine → LineDone l m m lent lent a b i j
-  round-left-out x y z w e p = rw e (refl, (refl, (refl, (p, few))))
+  pub round-done : (x y z w : DeviceAnswer) (memory : Memory) → l ≡ Round x y z w → next ≡ afterRound m (fourAnswers x y z w) lent →
+      memory .image ≡ memoryAfterRound m (fourAnswers x y z w) lent .image → memory .store ≡ memoryAfterRound m (fourAnswers x y z w) lent .store →
+      Appended a b i j (roundText (roundNumberOf m lent) (afterRound m (fourAnswers x y z w) lent)) → LineDone l m next lent memory a b i j
+  round-done x y z w memory e f g h p = rw e (f, (g, (h, (p, few))))
 
 -- the line that the bytes say
 pub line-done : (bytes : List ℕ) (l : Line) (m next : Manager) (lent memory : Memory) {a b : List ℕ} {i j : ℕ} → l ≡ lineIn m bytes →

@@ -2,17 +2,20 @@
 ghost use mathlib.Core.Path.{_≡_};
 ghost use Prim.Native.Nat.{_+_, _≤_};
 ghost use lib.ListN.{length};
-ghost use Rattle.manager.specs.Calls.{infoNumberOf, infoOf};
+ghost use Rattle.manager.specs.Calls.{infoNumberOf, infoOf, roundNumberOf, afterRound, memoryAfterRound};
 ghost use Rattle.memory.specs.Numbers.{admissionNumber};
+ghost use Rattle.rounds.specs.Effects.{memoryOf};
 ghost use Rattle.texts.specs.Appended.{Appended};
 ghost use Rattle.texts.specs.Texts.{numberLine};
-ghost use Rattle.session.specs.Play.{numberOfCall, afterCall, infoText, textOfLine, afterLine, memoryAfterLine, playedText, playedManager, playedMemory};
+ghost use Rattle.session.specs.Play.{numberOfCall, afterCall, infoText, roundText, textOfLine, afterLine, memoryAfterLine, playedText, playedManager, playedMemory};
 use lines::Line;
 use lines::LineCall;
 use lines::line_of;
 use manager::Answered;
 use manager::Manager;
+use memory::DeviceAnswer;
 use memory::LogicalAddress;
+use shown::devices_line;
 use texts::info_line;
 use texts::number_line;
 use texts::question_line;
@@ -73,6 +76,35 @@ fn play_info(manager: Manager, area: u32, out: &mut [u8], at: usize) -> usize
     info_line(out, at, result, info.processed, waits)
 }
 
+fn play_round(
+    manager: Manager,
+    answers: [DeviceAnswer; 4],
+    image: &mut [u8],
+    store: &mut [u8],
+    out: &mut [u8],
+    at: usize,
+) -> Played
+    requires { ⌜ at + 338 ≤ length (now out) ⌝ }
+    ensures { λ r. ⌜ r .manager ≡ afterRound manager answers (memoryOf (now (image .entry)) (now (store .entry))) ⌝ }
+    ensures { λ _. ⌜ now (image .exit) ≡ memoryAfterRound manager answers (memoryOf (now (image .entry)) (now (store .entry))) .image ⌝ }
+    ensures { λ _. ⌜ now (store .exit) ≡ memoryAfterRound manager answers (memoryOf (now (image .entry)) (now (store .entry))) .store ⌝ }
+    ensures { λ r. ⌜ (Appended (now (out .entry)) (now (out .exit)) at (r .end) (roundText (roundNumberOf manager (memoryOf (now (image .entry)) (now (store .entry)))) (afterRound manager answers (memoryOf (now (image .entry)) (now (store .entry)))))) × (r .end ≤ at + 338) ⌝ }
+{
+    let answered = manager.round(answers, image, store);
+    let answer = answered.answer;
+    let next = answered.manager;
+    let number = answer.number();
+    if 0 < number {
+        let end = number_line(out, at, number as u64);
+        return Played { manager: next, end };
+    }
+    let plan = next.plan;
+    let areas = next.areas;
+    let devices = next.devices;
+    let end = devices_line(out, at, plan, areas, devices);
+    Played { manager: next, end }
+}
+
 fn play_line(
     manager: Manager,
     line: Line,
@@ -82,10 +114,10 @@ fn play_line(
     at: usize,
 ) -> Played
     requires { ⌜ at + 338 ≤ length (now out) ⌝ }
-    ensures { λ r. ⌜ r .manager ≡ afterLine line manager (record { image = now (image .entry); store = now (store .entry) }) ⌝ }
-    ensures { λ _. ⌜ now (image .exit) ≡ memoryAfterLine line manager (record { image = now (image .entry); store = now (store .entry) }) .image ⌝ }
-    ensures { λ _. ⌜ now (store .exit) ≡ memoryAfterLine line manager (record { image = now (image .entry); store = now (store .entry) }) .store ⌝ }
-    ensures { λ r. ⌜ (Appended (now (out .entry)) (now (out .exit)) at (r .end) (textOfLine line manager (record { image = now (image .entry); store = now (store .entry) }))) × (r .end ≤ at + 338) ⌝ }
+    ensures { λ r. ⌜ r .manager ≡ afterLine line manager (memoryOf (now (image .entry)) (now (store .entry))) ⌝ }
+    ensures { λ _. ⌜ now (image .exit) ≡ memoryAfterLine line manager (memoryOf (now (image .entry)) (now (store .entry))) .image ⌝ }
+    ensures { λ _. ⌜ now (store .exit) ≡ memoryAfterLine line manager (memoryOf (now (image .entry)) (now (store .entry))) .store ⌝ }
+    ensures { λ r. ⌜ (Appended (now (out .entry)) (now (out .exit)) at (r .end) (textOfLine line manager (memoryOf (now (image .entry)) (now (store .entry))))) × (r .end ≤ at + 338) ⌝ }
 {
     match line {
         Line::Unreadable => {
@@ -98,13 +130,13 @@ fn play_line(
             Played { manager, end }
         }
         Line::Round {
-            first: _,
-            second: _,
-            third: _,
-            fourth: _,
+            first,
+            second,
+            third,
+            fourth,
         } => {
-            let end = question_line(out, at);
-            Played { manager, end }
+            let answers = [first, second, third, fourth];
+            play_round(manager, answers, image, store, out, at)
         }
     }
 }
@@ -119,10 +151,10 @@ pub fn play(
     at: usize,
 ) -> Played
     requires { ⌜ at + 338 ≤ length (now out) ⌝ }
-    ensures { λ r. ⌜ r .manager ≡ playedManager manager (now (line .entry)) (record { image = now (image .entry); store = now (store .entry) }) ⌝ }
-    ensures { λ _. ⌜ now (image .exit) ≡ playedMemory manager (now (line .entry)) (record { image = now (image .entry); store = now (store .entry) }) .image ⌝ }
-    ensures { λ _. ⌜ now (store .exit) ≡ playedMemory manager (now (line .entry)) (record { image = now (image .entry); store = now (store .entry) }) .store ⌝ }
-    ensures { λ r. ⌜ (Appended (now (out .entry)) (now (out .exit)) at (r .end) (playedText manager (now (line .entry)) (record { image = now (image .entry); store = now (store .entry) }))) × (r .end ≤ at + 338) ⌝ }
+    ensures { λ r. ⌜ r .manager ≡ playedManager manager (now (line .entry)) (memoryOf (now (image .entry)) (now (store .entry))) ⌝ }
+    ensures { λ _. ⌜ now (image .exit) ≡ playedMemory manager (now (line .entry)) (memoryOf (now (image .entry)) (now (store .entry))) .image ⌝ }
+    ensures { λ _. ⌜ now (store .exit) ≡ playedMemory manager (now (line .entry)) (memoryOf (now (image .entry)) (now (store .entry))) .store ⌝ }
+    ensures { λ r. ⌜ (Appended (now (out .entry)) (now (out .exit)) at (r .end) (playedText manager (now (line .entry)) (memoryOf (now (image .entry)) (now (store .entry))))) × (r .end ≤ at + 338) ⌝ }
 {
     let plan = manager.plan;
     let asked = line_of(line, plan.device_count);
