@@ -3,6 +3,10 @@ ghost use mathlib.Core.Path.{_≡_};
 ghost use Prim.Native.Nat.{_≤_};
 ghost use lib.ListN.{length, take};
 ghost use Rattle.session.specs.PlanText.{lineOf, planText};
+
+pub mod fold;
+pub mod play;
+
 use manager::Manager;
 use plan::questions::device_sum;
 

@@ -1,0 +1,4 @@
+pub mod Appended
+pub mod Texts
+pub mod TextLaws
+pub mod Examples
