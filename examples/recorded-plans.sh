@@ -13,6 +13,23 @@ plan_t() {
     sub_area 1 0 32 16 16 4 4 1 4 2 0 0
 }
 
+# four devices of 64 bytes; area 0 lies on devices 0 and 1, areas 1 and 2 on device 2, area 3 on device 3
+plan_four() {
+    device 0 64 2
+    device 64 64 3
+    device 128 64 1
+    device 192 64 4
+    area 1 0 0 32
+    area 5 256 32 16
+    area 5 512 48 16
+    area 0 0 64 32
+    sub_area 0 0 0 16 32 4 8 1 8 4 1 0
+    sub_area 0 1 64 16 32 4 8 1 8 4 0 1
+    sub_area 1 2 128 16 16 4 4 1 4 2 2 0
+    sub_area 2 2 160 16 16 4 4 1 4 2 0 0
+    sub_area 3 3 192 32 64 8 16 2 8 2 0 2
+}
+
 # keep FILE: writes standard input to the file, or compares the two
 keep() {
     if [ "$mode" = --check ]; then
@@ -26,6 +43,9 @@ keep() {
 mode=${1:-write}
 plan_t 64 2 | keep plan-t/plan.bin
 plan_t 64 2 | keep ../crates/bench/data/plan.bin
+plan_t 64 2 | keep ../crates/bench_lines/data/plan.bin
+plan_t 64 2 | keep ../crates/bench_line_length/data/plan.bin
+plan_four | keep ../crates/bench_devices/data/plan.bin
 plan_t 64 0 | keep ../crates/bench_refused/data/plan.bin
 plan_t 65537 2 | keep ../crates/bench_sum/data/plan.bin
 head -c 4097 /dev/zero | keep ../crates/bench_long/data/plan.bin

@@ -9,11 +9,13 @@ use lib.Dec.{leb}
 use lib.ListN.{length, take, length-take, length-drop}
 use lib.Seq.{length-take-le}
 use Rattle.lines.specs.Fields.{isLast, word}
+use Rattle.manager.specs.Load.{loadedManager}
 use Rattle.manager.specs.declared.Manager.{Manager}
 use Rattle.requests.specs.Effects.{memoryOf}
 use Rattle.rules.specs.Memory.{Memory}
 use Rattle.texts.specs.Appended.{Appended}
-use Rattle.session.specs.Fold.{Session, played, playedLast, hasRoom, playedLines}
+use Rattle.session.specs.Fold.{Session, played, playedLast, hasRoom, playedLines, playedInput, opened, playedAll}
+use Rattle.session.specs.PlanText.{planText}
 use Rattle.session.specs.Play.{playedText, playedManager, playedMemory}
 
 abbrev pub sessionOf : Manager → List ℕ → List ℕ → List ℕ → ℕ → ℕ → Session
@@ -69,3 +71,29 @@ module _ (ends : Bool) (room : ℕ) (m : Manager) (image store out : List ℕ) (
 
 pub word-length : (l : List ℕ) (from i : ℕ) → from ≤ i → i ≤ length l → length (word l from i) ≡ i - from
 word-length l from i h k = simp (length-take, length-drop) (omega arith)
+
+-- the whole session by its cases; s is what the lines come to
+module _ (plan input : List ℕ) (room : ℕ) (lent : Memory) where
+  pub all-full : room < 338 → opened plan [] lent ≡ playedAll plan input room lent
+  unfolding playedAll
+  all-full h = rw (lt-ltb _ _ h)
+
+  pub all-refused : 338 ≤ room → 0 < length (planText plan) → opened plan (planText plan) lent ≡ playedAll plan input room lent
+  unfolding playedAll
+  all-refused h k = rw (le-ltb _ _ h, le-ltb _ _ k)
+
+  pub all-played : 338 ≤ room → length (planText plan) ≤ 0 → playedInput true room input (opened plan [] lent) ≡ playedAll plan input room lent
+  unfolding playedAll
+  all-played h k = rw (le-ltb _ _ h, lt-ltb (length (planText plan)) 1 (omega arith))
+
+-- what each part of an equation of sessions says
+pub session-parts : (m : Manager) (image store out : List ℕ) (end used : ℕ) (s : Session) → sessionOf m image store out end used ≡ s →
+    (image ≡ s .memory .image) × (store ≡ s .memory .store) × (take end out ≡ s .printed) × (used ≡ s .used)
+session-parts m image store out end used s e =
+    (ap (λ (x : Session). x .memory .image) e, ap (λ (x : Session). x .memory .store) e, ap (λ (x : Session). x .printed) e, ap (λ (x : Session). x .used) e)
+
+pub all-lines : (plan input image store : List ℕ) {before out : List ℕ} {k : ℕ} (m : Manager) (x : Session) → m ≡ loadedManager plan →
+    Appended before out 0 k (planText plan) → 338 ≤ length before → k ≤ 0 →
+    x ≡ playedInput true (length out) input (sessionOf m image store out 0 0) → x ≡ playedAll plan input (length before) (memoryOf image store)
+all-lines plan input image store {before} m x e q h z p =
+    p ∙ rw (e, q .long) (all-played plan input (length before) (memoryOf image store) h (omega (arith, q .ends)))

@@ -1,52 +1,112 @@
-// The bench's session (document 01, "A printed session"): what it answers to a plan.
+// The bench's session (document 01, "A printed session"): a plan and the lines that follow it.
 ghost use mathlib.Core.Path.{_≡_};
 ghost use Prim.Native.Nat.{_≤_};
 ghost use lib.ListN.{length, take};
-ghost use Rattle.session.specs.PlanText.{lineOf, planText};
+ghost use Rattle.manager.specs.Load.{loadedManager};
+ghost use Rattle.rounds.specs.Effects.{memoryOf};
+ghost use Rattle.texts.specs.Appended.{Appended};
+ghost use Rattle.session.specs.Fold.{playedAll};
+ghost use Rattle.session.specs.PlanText.{planText, imageLength};
 
 pub mod fold;
 pub mod play;
 
+use crate::fold::play_lines;
 use manager::Manager;
 use plan::questions::device_sum;
+use texts::number_line;
+use texts::question_line;
 
-// The first `len` bytes are the text.
-pub struct Text {
-    pub bytes: [u8; 2],
-    pub len: usize,
+// The manager of a plan, the length of its image, and how many bytes were written: none where the session goes on.
+pub struct Opened {
+    pub manager: Manager,
+    pub image_length: usize,
+    pub written: usize,
 }
 
-// One character and a line end.
-fn line_of(character: u8) -> Text
-    ensures { λ r. ⌜ (take (r .len) (r .bytes) ≡ lineOf character) × (r .len ≤ 2) × (length (r .bytes) ≡ 2) ⌝ }
+// Loads the plan, and prints what the bench answers to it.
+pub fn open(plan: &[u8], out: &mut [u8]) -> Opened
+    requires { ⌜ 338 ≤ length (now out) ⌝ }
+    ensures { λ r. ⌜ r .manager ≡ loadedManager (now (plan .entry)) ⌝ }
+    ensures { λ r. ⌜ (Appended (now (out .entry)) (now (out .exit)) 0 (r .written) (planText (now (plan .entry)))) × (r .written ≤ 338) ⌝ }
+    ensures { λ r. ⌜ (r .«image_length» ≡ imageLength (now (plan .entry))) × (r .«image_length» ≤ 65536) ⌝ }
 {
-    Text {
-        bytes: [character, b'\n'],
-        len: 2,
+    let loaded = Manager::load(plan);
+    let manager = loaded.manager;
+    if 4096 < plan.len() {
+        let written = question_line(out, 0);
+        return Opened {
+            manager,
+            image_length: 0,
+            written,
+        };
     }
-}
-
-// What the bench prints of a plan whose bytes could be read.
-pub fn plan_text(bytes: &[u8]) -> Text
-    ensures { λ r. ⌜ (take (r .len) (r .bytes) ≡ planText (now (bytes .entry))) × (r .len ≤ 2) × (length (r .bytes) ≡ 2) ⌝ }
-{
-    if 4096 < bytes.len() {
-        return line_of(b'?');
-    }
-    let loaded = Manager::load(bytes);
     let answer = loaded.answer;
     let number = answer.number();
     if 0 < number {
-        return line_of(48 + number);
+        let written = number_line(out, 0, number as u64);
+        return Opened {
+            manager,
+            image_length: 0,
+            written,
+        };
     }
-    let manager = loaded.manager;
-    let plan = manager.plan;
-    let devices = plan.devices;
-    if 65536 < device_sum(devices, plan.device_count) {
-        return line_of(b'?');
+    let kept = manager.plan;
+    let devices = kept.devices;
+    let sum = device_sum(devices, kept.device_count);
+    if 65536 < sum {
+        let written = question_line(out, 0);
+        return Opened {
+            manager,
+            image_length: 0,
+            written,
+        };
     }
-    Text {
-        bytes: [0, 0],
-        len: 0,
+    Opened {
+        manager,
+        image_length: sum as usize,
+        written: 0,
+    }
+}
+
+// How many bytes of the input were used, and how many were written.
+pub struct Counts {
+    pub used: usize,
+    pub written: usize,
+}
+
+// A whole session: the plan, then the lines of the input, on lent image and store. It writes to `out` as long as the
+// longest answer has room there.
+pub fn play_all(
+    plan: &[u8],
+    input: &[u8],
+    image: &mut [u8],
+    store: &mut [u8],
+    out: &mut [u8],
+) -> Counts
+    ensures { λ _. ⌜ now (image .exit) ≡ playedAll (now (plan .entry)) (now (input .entry)) (length (now (out .entry))) (memoryOf (now (image .entry)) (now (store .entry))) .memory .image ⌝ }
+    ensures { λ _. ⌜ now (store .exit) ≡ playedAll (now (plan .entry)) (now (input .entry)) (length (now (out .entry))) (memoryOf (now (image .entry)) (now (store .entry))) .memory .store ⌝ }
+    ensures { λ r. ⌜ take (r .written) (now (out .exit)) ≡ playedAll (now (plan .entry)) (now (input .entry)) (length (now (out .entry))) (memoryOf (now (image .entry)) (now (store .entry))) .printed ⌝ }
+    ensures { λ r. ⌜ r .used ≡ playedAll (now (plan .entry)) (now (input .entry)) (length (now (out .entry))) (memoryOf (now (image .entry)) (now (store .entry))) .used ⌝ }
+    ensures { λ r. ⌜ (r .used ≤ length (now (input .entry))) × (r .written ≤ length (now (out .exit))) ⌝ }
+{
+    if out.len() < 338 {
+        return Counts {
+            used: 0,
+            written: 0,
+        };
+    }
+    let opened = open(plan, out);
+    if 0 < opened.written {
+        return Counts {
+            used: 0,
+            written: opened.written,
+        };
+    }
+    let manager = opened.manager;
+    let progress = play_lines(manager, input, true, image, store, out);
+    Counts {
+        used: progress.used,
+        written: progress.written,
     }
 }
