@@ -1,11 +1,15 @@
 // What C and Rust see of a manager: structs in C's layout, with the papers' number in the place of each enum.
 ghost use mathlib.Core.Path.{_≡_};
+ghost use lib.ListN.{length, take};
 ghost use Rattle.arith.specs.Tables.{table};
+ghost use Rattle.requests.specs.Effects.{memoryOf};
+ghost use Rattle.session.specs.Fold.{playedAll};
 ghost use Rattle.interface.specs.Views.{jobView, areaView, noAreaView, areaViews, deviceView, noDeviceView, deviceViews, loadView};
 use manager::Manager;
 use memory::JobResult;
 use memory::LogicalAddress;
 use plan::records::Plan;
+use session::play_all;
 use state::Area;
 use state::Device;
 use state::DeviceState;
@@ -156,5 +160,33 @@ pub extern "C" fn luvdrog_load(bytes: &[u8]) -> LoadView
         plan,
         areas: area_views(areas),
         devices: device_views(devices),
+    }
+}
+
+// How many bytes of the input a session used, and how many it wrote.
+#[repr(C)]
+pub struct SessionView {
+    pub used: usize,
+    pub written: usize,
+}
+
+// A whole session of the bench on lent buffers (session::play_all).
+#[no_mangle]
+pub extern "C" fn luvdrog_session(
+    plan: &[u8],
+    input: &[u8],
+    image: &mut [u8],
+    store: &mut [u8],
+    out: &mut [u8],
+) -> SessionView
+    ensures { λ _. ⌜ now (image .exit) ≡ playedAll (now (plan .entry)) (now (input .entry)) (length (now (out .entry))) (memoryOf (now (image .entry)) (now (store .entry))) .memory .image ⌝ }
+    ensures { λ _. ⌜ now (store .exit) ≡ playedAll (now (plan .entry)) (now (input .entry)) (length (now (out .entry))) (memoryOf (now (image .entry)) (now (store .entry))) .memory .store ⌝ }
+    ensures { λ r. ⌜ take (r .written) (now (out .exit)) ≡ playedAll (now (plan .entry)) (now (input .entry)) (length (now (out .entry))) (memoryOf (now (image .entry)) (now (store .entry))) .printed ⌝ }
+    ensures { λ r. ⌜ r .used ≡ playedAll (now (plan .entry)) (now (input .entry)) (length (now (out .entry))) (memoryOf (now (image .entry)) (now (store .entry))) .used ⌝ }
+{
+    let counts = play_all(plan, input, image, store, out);
+    SessionView {
+        used: counts.used,
+        written: counts.written,
     }
 }
