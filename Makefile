@@ -27,7 +27,7 @@ timing-library:
 	@rm -f target.log
 
 bench: proved-library timing-library
-	cargo run --offline --release --quiet --manifest-path model/Cargo.toml --features timing --bin bench
+	cargo run --offline --release --quiet --manifest-path model/Cargo.toml --features timing,session --bin bench
 
 # Sessions of ever new seeds on the library and on the model; a difference is made small and saved in model/differences.
 fuzz: proved-library
@@ -39,5 +39,5 @@ test:
 	sh examples/recorded-plans.sh --check
 	$(MAKE) --no-print-directory model
 	$(MAKE) --no-print-directory proved-library timing-library
-	cargo test --offline --release --quiet --manifest-path model/Cargo.toml --features timing --test proved_load --test proved_calls
+	cargo test --offline --release --quiet --manifest-path model/Cargo.toml --features timing,session --test proved_load --test proved_calls --test proved_session
 	rt ci
