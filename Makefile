@@ -2,7 +2,11 @@
 PLAN ?= examples/plan-t/plan.bin
 SESSION ?= examples/plan-t/session.txt
 
-.PHONY: run test bench model proved-library
+# How long `make fuzz` looks for a difference, and from which seed on (empty: a new one).
+SECONDS ?= 60
+SEED ?=
+
+.PHONY: run test bench fuzz model proved-library timing-library
 
 run:
 	@rt check bench >target.log 2>&1 || { cat target.log; rm -f target.log; exit 1; }
@@ -17,14 +21,23 @@ proved-library:
 model:
 	cargo test --offline --release --quiet --manifest-path model/Cargo.toml
 
-bench: proved-library
-	cargo run --offline --release --quiet --manifest-path model/Cargo.toml --features proved --bin bench_load
+# The loops over calls that the benchmarks link besides.
+timing-library:
+	@rt staticlib timing >target.log 2>&1 || { cat target.log; rm -f target.log; exit 1; }
+	@rm -f target.log
+
+bench: proved-library timing-library
+	cargo run --offline --release --quiet --manifest-path model/Cargo.toml --features timing --bin bench
+
+# Sessions of ever new seeds on the library and on the model; a difference is made small and saved in model/differences.
+fuzz: proved-library
+	cargo run --offline --release --quiet --manifest-path model/Cargo.toml --features session --bin fuzz -- $(SECONDS) model/differences $(SEED)
 
 # `rt ci` comes last: its last line, 'N passed, 0 failed', is the verdict.
 test:
 	rt fmt --check
 	sh examples/recorded-plans.sh --check
 	$(MAKE) --no-print-directory model
-	$(MAKE) --no-print-directory proved-library
-	cargo test --offline --release --quiet --manifest-path model/Cargo.toml --features proved --test proved_load
+	$(MAKE) --no-print-directory proved-library timing-library
+	cargo test --offline --release --quiet --manifest-path model/Cargo.toml --features timing --test proved_load --test proved_calls
 	rt ci

@@ -22,22 +22,35 @@
 //! - [`sessions`]: making lists of calls and lines of sessions;
 //! - [`named`]: the table of plans whose number follows from the paper by hand;
 //! - [`random`]: the deterministic generator behind everything random;
+//! - [`script`], [`subject`]: whole sessions as values, and the comparison of two that run them;
+//! - [`coverage`]: what the sessions tried;
+//! - [`shrink`]: the smallest session that still shows a difference, and its report;
+//! - [`fuzz`]: sessions of ever new seeds;
 //! - [`histogram`]: how often each number came up;
+//! - [`loops`]: calls in loops, as the benchmarks time them;
+//! - [`race`]: two ways to the same sum, timed in turn;
 //! - `proved`: the proved library, called through its C interface (feature `proved`).
 
 pub mod admission;
 pub mod calls;
+pub mod coverage;
 pub mod demands;
+pub mod fuzz;
 pub mod histogram;
 pub mod jobs;
+pub mod loops;
 pub mod manager;
 pub mod named;
 pub mod plan;
 pub mod plans;
 #[cfg(feature = "proved")]
 pub mod proved;
+pub mod race;
 pub mod random;
+pub mod script;
 pub mod segments;
 pub mod session;
 pub mod sessions;
+pub mod shrink;
+pub mod subject;
 pub mod wait_book;

@@ -1,13 +1,15 @@
 //! Making plans: from records to bytes, the plans of document 01 and regular ones, and the mix of
 //! random plans on which the model is compared.
 
+mod enduring;
 mod loose;
 mod small;
 mod valid;
 mod wounds;
 
+pub use enduring::enduring;
 pub use loose::loose;
-pub use small::small;
+pub use small::{full, small};
 pub use valid::valid;
 pub use wounds::{byte_changes, cuts, field_changes, wounded};
 

@@ -5,6 +5,11 @@
 //! write unit and burst page and page burst, a read unit and burst smallest and largest read.
 #![allow(unsafe_code)]
 
+#[cfg(feature = "session")]
+pub mod session;
+#[cfg(feature = "timing")]
+pub mod timing;
+
 #[repr(C)]
 #[derive(Clone, Copy, Debug, Default, PartialEq, Eq)]
 pub struct DeviceRecord {

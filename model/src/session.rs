@@ -12,7 +12,7 @@ pub const LINE_LIMIT: usize = 4_096;
 /// "device sum at most 65,536"
 pub const BENCH_SUM_LIMIT: u64 = 65_536;
 /// "store 65,536 zeros"
-const STORE_LENGTH: usize = 65_536;
+pub const STORE_LENGTH: usize = 65_536;
 /// The answer to whatever the bench cannot read.
 const UNREADABLE: &str = "?";
 
@@ -38,16 +38,16 @@ pub fn run_session(plan: Option<&[u8]>, input: &[u8]) -> Vec<u8> {
 }
 
 impl Session {
-    /// A session over a plan, or what the bench prints instead of one.
+    /// A session over a plan with the bench's own memory, or what the bench prints instead of one.
     pub fn open(plan: Option<&[u8]>) -> Result<Session, String> {
-        let bytes = plan.filter(|bytes| bytes.len() <= PLAN_LIMIT).ok_or(UNREADABLE)?;
-        let manager = Manager::load(bytes).map_err(|number| number.to_string())?;
-        let sum = manager.plan().device_sum();
-        if sum > BENCH_SUM_LIMIT {
-            return Err(UNREADABLE.to_string());
-        }
-        let (image, store) = (vec![255; index(sum)], vec![0; STORE_LENGTH]);
-        Ok(Session { manager, image, store, begun: Vec::new() })
+        let manager = load(plan)?;
+        let image = vec![255; index(manager.plan().device_sum())];
+        Ok(Session { manager, image, store: vec![0; STORE_LENGTH], begun: Vec::new() })
+    }
+
+    /// The same with memory of any length and bytes.
+    pub fn lent(plan: &[u8], image: Vec<u8>, store: Vec<u8>) -> Result<Session, String> {
+        Ok(Session { manager: load(Some(plan))?, image, store, begun: Vec::new() })
     }
 
     /// Takes more input and gives the answers to the lines that it completes.
@@ -66,7 +66,7 @@ impl Session {
     }
 
     /// The input has ended: "a last line without it counts if it has a byte".
-    pub fn finish(mut self) -> Vec<u8> {
+    pub fn finish(&mut self) -> Vec<u8> {
         if self.begun.is_empty() {
             return Vec::new();
         }
@@ -114,6 +114,17 @@ impl Session {
             Err(number) => number.to_string(),
         }
     }
+}
+
+/// "A refused plan prints only its number; a plan above that sum, over 4,096 bytes or unreadable
+/// prints only "?"."
+fn load(plan: Option<&[u8]>) -> Result<Manager, String> {
+    let bytes = plan.filter(|bytes| bytes.len() <= PLAN_LIMIT).ok_or(UNREADABLE)?;
+    let manager = Manager::load(bytes).map_err(|number| number.to_string())?;
+    if manager.plan().device_sum() > BENCH_SUM_LIMIT {
+        return Err(UNREADABLE.to_string());
+    }
+    Ok(manager)
 }
 
 fn with_line_end(answer: String) -> Vec<u8> {

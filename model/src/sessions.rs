@@ -12,7 +12,7 @@ pub use calls::{steps, Memory, Step};
 pub use lines::{lines, text, Line};
 
 use crate::plan::Plan;
-use crate::plans::{largest, plan_t, small, valid};
+use crate::plans::{full, largest, plan_t, small, valid};
 use crate::random::Random;
 use crate::session::BENCH_SUM_LIMIT;
 
@@ -22,6 +22,7 @@ pub fn bench_plan(random: &mut Random) -> Plan {
         0 => plan_t(),
         1 => largest(),
         2 => medium(random),
+        3 => full(random),
         _ => small(random),
     }
 }

@@ -2,9 +2,9 @@
 //! are written as sessions of the bench, with a look at image and store.
 
 use model::jobs::{Answer, Operation, Target};
-use model::manager::{JobInfo, Manager, MemoryInfo, RequestInfo, Wait, Waits};
+use model::manager::{DeviceState, JobInfo, Manager, MemoryInfo, RequestInfo, Wait, Waits};
 use model::plan::{Area, Device, Plan, SubArea};
-use model::plans::{encode, plan_t};
+use model::plans::{encode, enduring, plan_t};
 use model::session::Session;
 use model::wait_book::{Numbers, WaitBook};
 
@@ -933,5 +933,25 @@ fn wait_book_of_the_printed_session() {
     assert_eq!(numbers(1), Numbers { rounds: 3, own: 1, above: 0, below: 1, locked: 0 });
     for area in [0, 1] {
         assert!(book.entry(area).round_ended_it && !book.entry(area).is_pending);
+    }
+}
+
+/// What the benchmarks rest on: in long runs of rounds no job ends, and every device is busy.
+#[test]
+fn enduring_plans_keep_every_device_busy() {
+    for (devices, areas, sub_areas) in [(1, 1, 1), (1, 8, 32), (2, 8, 32), (3, 8, 32), (4, 8, 32)] {
+        let plan = enduring(devices, areas, sub_areas);
+        let mut manager = Manager::load(&encode(&plan)).expect("an accepted plan");
+        for area in 0..areas {
+            assert_eq!(manager.job(Operation::Read, area, 0, 8_192), 0);
+        }
+        let mut image = vec![255; usize::try_from(plan.device_sum()).expect("an image")];
+        let mut store = vec![0; 65_536];
+        for _ in 0..8_000 {
+            assert_eq!(manager.round([Answer::Done; 4], &mut image, &mut store), 0);
+            for device in 0..plan.devices.len() {
+                assert!(matches!(manager.device(device), DeviceState::Running(_)));
+            }
+        }
     }
 }

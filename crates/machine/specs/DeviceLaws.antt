@@ -5,7 +5,7 @@ use mathlib.Core.List.{List}
 use mathlib.Core.Path.{_≡_, refl, ap, sym, _∙_}
 use native.Mathlib.Omega.{arith}
 use lib.Dec.{eqb}
-use lib.ListN.{length, List·getD-eq-default}
+use lib.ListN.{length}
 use Rattle.arith.specs.Cases.{pick, by-bool, by-leb}
 use Rattle.arith.specs.Parts.{upd-same}
 use Rattle.memory.specs.declared.Task.{Task}
@@ -16,12 +16,12 @@ use Rattle.rules.specs.Machine.{Core, due, need, begunWith, begun, cancelled, e
 use Rattle.rules.specs.Queries.{requestOn}
 use Rattle.segment.specs.Segments.{segmentAt}
 use Rattle.segment.specs.declared.Segment.{Segment}
-use Rattle.state.specs.Fresh.{freeDevice}
 use Rattle.state.specs.declared.Area.{Area}
 use Rattle.state.specs.declared.Device.{Device}
 use Rattle.state.specs.declared.DeviceState.{DeviceState}
 use Rattle.state.specs.declared.DeviceState.the-variants.{Free, Runs, LockedFor}
 use Rattle.state.specs.declared.Job.{Job}
+use Rattle.machine.specs.Arrays.{state-past}
 use Rattle.machine.specs.Sound.{jobIn, stateIn, coreIn}
 
 -- the device runs the request of area a
@@ -37,14 +37,10 @@ own-runs p a Free = refl
 own-runs p a (LockedFor b) = refl
 own-runs p a (Runs b polls) = by-bool (eqb b a) (λ e. rw e) (λ e. rw e (by-bool (p .outranks b a) (λ f. rw f) (λ f. rw f)))
 
--- a device that the manager does not have does nothing
-pub state-past : (devices : List Device) (d n : ℕ) → length devices ≡ n → n ≤ d → Free ≡ stateIn devices d
-state-past devices d n e h = sym (ap (λ x. x .state) (List·getD-eq-default devices freeDevice (omega (arith, e, h))))
-
 -- a lock is held on a device that the manager has
 pub lock-known : (devices : List Device) (d a n : ℕ) → length devices ≡ n → holdsLock a (stateIn devices d) ≡ true → d < n
 lock-known devices d a n e h =
-    by-leb n d (λ _ l. absurd (false≢true (ap (holdsLock a) (state-past devices d n e l) ∙ h))) (λ _ l. l)
+    by-leb n d (λ _ l. absurd (false≢true (sym (ap (holdsLock a) (state-past devices d (omega (arith, e, l)))) ∙ h))) (λ _ l. l)
 
 -- the segment s that is due, and what the device that it lies on does
 module _ (p : Plan) (areas : List Area) (devices : List Device) (a : ℕ) (s : Segment) (x : DeviceState)

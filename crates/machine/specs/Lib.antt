@@ -1,4 +1,3 @@
-pub mod JobLaws
 pub mod QueryLaws
 pub mod QuestionLaws
 pub mod Sound

@@ -1,6 +1,5 @@
 // The machine in code: what happens to one job, one device, one area.
 pub mod devices;
-pub mod jobs;
 pub mod queries;
 pub mod questions;
 pub mod soundness;

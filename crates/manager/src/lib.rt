@@ -7,7 +7,7 @@ ghost use Rattle.memory.specs.declared.JobType.the-variants.{Write, Read, Compa
 ghost use Rattle.manager.specs.Calls.{withArea, withDevice, jobNumberOf, afterJob, releaseNumberOf, afterRelease, cancelNumberOf, afterCancel, infoNumberOf, statusOf, resultOf, processedOf, noJobInfo, infoOf, memoryInfoNumberOf, memoryOfArea, roundNumberOf, afterRound, memoryAfterRound};
 ghost use Rattle.machine.specs.Sound.{jobIn};
 ghost use Rattle.rounds.specs.Close.{waitsIn};
-ghost use Rattle.rounds.specs.Effects.{memoryOf};
+ghost use Rattle.requests.specs.Effects.{memoryOf};
 ghost use Rattle.manager.specs.Load.{freshManager, loadedManager};
 use admission::range_device;
 use machine::devices::begun_job;

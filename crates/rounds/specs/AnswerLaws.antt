@@ -26,7 +26,7 @@ use Rattle.state.specs.declared.DeviceState.{DeviceState}
 use Rattle.state.specs.declared.DeviceState.the-variants.{Free, Runs, LockedFor}
 use Rattle.state.specs.declared.Job.{Job}
 use Rattle.rounds.specs.Close.{lentTo}
-use Rattle.rounds.specs.Requests.{requestVerdict, requestJob, requestState, requestMemory, taken-core}
+use Rattle.requests.specs.Requests.{requestVerdict, requestJob, requestState, requestMemory, taken-core}
 
 -- both arrays with one entry changed
 pub core-set : (areas : List Area) (devices : List Device) (a : ℕ) (x : Area) (d : ℕ) (y : Device) → a < length areas → d < length devices →

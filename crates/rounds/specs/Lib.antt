@@ -1,6 +1,4 @@
 pub mod Close
-pub mod Effects
-pub mod Requests
 pub mod Halves
 pub mod AnswerLaws
 pub mod Picks

@@ -6,10 +6,10 @@ ghost use Rattle.machine.specs.Sound.{jobIn, stateIn, coreIn, stateSound, isSou
 ghost use Rattle.rules.specs.Admission.{imageFits, storeReaches};
 ghost use Rattle.rules.specs.Round.{takeIn, takeAll};
 ghost use Rattle.rounds.specs.Close.{lentTo};
-ghost use Rattle.rounds.specs.Effects.{memoryOf};
-use crate::requests::take_request;
+ghost use Rattle.requests.specs.Effects.{memoryOf};
 use memory::DeviceAnswer;
 use plan::records::Plan;
+use requests::take_request;
 use state::Area;
 use state::Device;
 use state::DeviceState;

@@ -10,8 +10,8 @@ ghost use Rattle.rounds.specs.Close.{stick, counted, closed, areasAfter}
 ghost use Rattle.rounds.specs.CloseLaws.{waitIs, rankLayout, closedArea};
 ghost use Rattle.rounds.specs.Picks.{needsLayout};
 use crate::picks::ranks_above;
+use jobs::is_pending;
 use machine::devices::state_on;
-use machine::jobs::is_pending;
 use plan::records::AreaRecord;
 use state::Area;
 use state::Device;

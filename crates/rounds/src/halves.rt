@@ -5,7 +5,7 @@ ghost use Rattle.machine.specs.Sound.{isSound};
 ghost use Rattle.rules.specs.Admission.{imageFits, storeReaches};
 ghost use Rattle.rules.specs.Layout.{layoutOf};
 ghost use Rattle.rounds.specs.Close.{areasAfter, devicesAfter, halvesOf};
-ghost use Rattle.rounds.specs.Effects.{memoryOf};
+ghost use Rattle.requests.specs.Effects.{memoryOf};
 use crate::answers::Arrays;
 use crate::answers::first_half;
 use crate::close::close;

@@ -1,7 +1,5 @@
 // A round in code: what the devices' answers do to jobs and lent memory, which jobs start, and the counts when it closes.
 pub mod answers;
 pub mod close;
-pub mod effects;
 pub mod halves;
 pub mod picks;
-pub mod requests;

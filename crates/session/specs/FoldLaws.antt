@@ -10,7 +10,7 @@ use lib.Seq.{length-take-le}
 use Rattle.lines.specs.Fields.{isLast, word}
 use Rattle.manager.specs.Load.{loadedManager}
 use Rattle.manager.specs.declared.Manager.{Manager}
-use Rattle.rounds.specs.Effects.{memoryOf}
+use Rattle.requests.specs.Effects.{memoryOf}
 use Rattle.rules.specs.Memory.{Memory}
 use Rattle.texts.specs.Appended.{Appended}
 use Rattle.session.specs.Fold.{Session, played, playedLast, playedLines, playedInput, opened, playedAll}

@@ -4,7 +4,7 @@ ghost use Prim.Native.Nat.{_+_, _≤_};
 ghost use lib.ListN.{length};
 ghost use Rattle.manager.specs.Calls.{infoNumberOf, infoOf, roundNumberOf, afterRound, memoryAfterRound};
 ghost use Rattle.memory.specs.Numbers.{admissionNumber};
-ghost use Rattle.rounds.specs.Effects.{memoryOf};
+ghost use Rattle.requests.specs.Effects.{memoryOf};
 ghost use Rattle.texts.specs.Appended.{Appended};
 ghost use Rattle.texts.specs.Texts.{numberLine};
 ghost use Rattle.session.specs.Play.{numberOfCall, afterCall, infoText, roundText, textOfLine, afterLine, memoryAfterLine, playedText, playedManager, playedMemory};

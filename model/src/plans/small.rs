@@ -10,6 +10,15 @@ pub fn small(random: &mut Random) -> Plan {
     let device_count = random.pick(&[1, 1, 1, 2, 2, 3, 4]);
     let area_count = random.pick(&[1, 2, 2, 3, 3, 4, 8]);
     let sub_area_count = area_count + random.below(5);
+    of_counts(random, device_count, area_count, sub_area_count)
+}
+
+/// As many records as can be accepted, each of them small.
+pub fn full(random: &mut Random) -> Plan {
+    of_counts(random, 4, 8, 32)
+}
+
+fn of_counts(random: &mut Random, device_count: u32, area_count: u32, sub_area_count: u32) -> Plan {
     let mut plan = image_layout(random, device_count, sub_area_count);
     // Mixed, the sub-areas of an area lie on several devices, some of them again and again.
     random.shuffle(&mut plan.sub_areas);

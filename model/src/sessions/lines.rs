@@ -92,10 +92,11 @@ fn add_zeros(random: &mut Random, fields: &mut [String], count: u32) {
     numbers[chosen].insert_str(0, &zeros);
 }
 
-/// A line of the greatest length, or of one byte more, which is too long.
+/// A line of the greatest length, or of one byte or many more, which is too long.
 fn padded(random: &mut Random, call: Call, mut fields: Vec<String>) -> Line {
     let length = joined(&fields).len();
-    let over = random.pick(&[0, 1]);
+    let many = random.index(LONGEST_LINE) + 1;
+    let over = random.pick(&[0, 0, 1, many]);
     let zeros = u32::try_from(LONGEST_LINE + over - length).expect("a short line");
     add_zeros(random, &mut fields, zeros);
     Line { text: joined(&fields), call: (over == 0).then_some(call) }

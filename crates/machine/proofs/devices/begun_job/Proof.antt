@@ -6,7 +6,7 @@ use Rattle.machine.proofs.devices.begun_job.Statement.{statement}
 use Rattle.machine.proofs.devices.begun_job.Tie as tie
 use Rattle.machine.proofs.devices.begun_job.Reads as reads
 use Rattle.machine.proofs.devices.begun_job.Lts as lts
-use Rattle.machine.proofs.jobs.begun.Reads as begun-reads
+use Rattle.jobs.proofs.begun.Reads as begun-reads
 use Rattle.segment.proofs.segment_at.Reads as segment-at-reads
 
 -- src/devices.rt:75:9

@@ -9,8 +9,8 @@ use Rattle.machine.proofs.devices.cancelled_job.Tie as tie
 use Rattle.machine.proofs.devices.cancelled_job.Reads as reads
 use Rattle.machine.proofs.devices.cancelled_job.Lts as lts
 use Rattle.machine.proofs.devices.area_runs.Reads as area-runs-reads
-use Rattle.machine.proofs.jobs.cancelled.Reads as cancelled-reads
-use Rattle.machine.proofs.jobs.ended.Reads as ended-reads
+use Rattle.jobs.proofs.cancelled.Reads as cancelled-reads
+use Rattle.jobs.proofs.ended.Reads as ended-reads
 
 -- src/devices.rt:54:17
 mul-entry : tie.Need-mul-entry

@@ -1,4 +1,6 @@
-use Rattle.machine.specs.DeviceLaws.{state-past}
+use mathlib.Core.Path.{sym}
+use native.Mathlib.Omega.{arith}
+use Rattle.machine.specs.Arrays.{state-past}
 use borrow.Author.Needs.{needs}
 use Rattle.machine.proofs.devices.state_on.Statement.{statement}
 use Rattle.machine.proofs.devices.state_on.Tie as tie
@@ -7,7 +9,7 @@ use Rattle.machine.proofs.devices.state_on.Lts as lts
 
 -- src/devices.rt:26:9
 returns : tie.Need-returns
-returns c = state-past (c .before .args .t1) (c .before .args .device) 4 (c .before .good .0 .1 .0 .1) (c .if1 .taken)
+returns c = sym (state-past (c .before .args .t1) (c .before .args .device) (omega (arith, c .before .good .0 .1 .0 .1, c .if1 .taken)))
 
 -- src/devices.rt:28:17
 mul-entry : tie.Need-mul-entry

@@ -9,7 +9,7 @@ use Rattle.machine.proofs.questions.cancel_admission.Statement.{stateme
 use Rattle.machine.proofs.questions.cancel_admission.Tie as tie
 use Rattle.machine.proofs.questions.cancel_admission.Reads as reads
 use Rattle.machine.proofs.questions.cancel_admission.Lts as lts
-use Rattle.machine.proofs.jobs.is_pending.Reads as is-pending-reads
+use Rattle.jobs.proofs.is_pending.Reads as is-pending-reads
 use Rattle.machine.proofs.soundness.is_sound.Reads as is-sound-reads
 
 -- src/questions.rt:40:9

@@ -10,7 +10,7 @@ use Rattle.machine.proofs.questions.job_admission.Tie as tie
 use Rattle.machine.proofs.questions.job_admission.Reads as reads
 use Rattle.machine.proofs.questions.job_admission.Lts as lts
 use Rattle.admission.proofs.range_admission.Reads as range-admission-reads
-use Rattle.machine.proofs.jobs.is_pending.Reads as is-pending-reads
+use Rattle.jobs.proofs.is_pending.Reads as is-pending-reads
 use Rattle.machine.proofs.soundness.is_sound.Reads as is-sound-reads
 
 -- src/questions.rt:64:9

@@ -4,7 +4,7 @@ use Rattle.machine.proofs.soundness.job_runs.Statement.{statement}
 use Rattle.machine.proofs.soundness.job_runs.Tie as tie
 use Rattle.machine.proofs.soundness.job_runs.Reads as reads
 use Rattle.machine.proofs.soundness.job_runs.Lts as lts
-use Rattle.machine.proofs.jobs.is_pending.Reads as is-pending-reads
+use Rattle.jobs.proofs.is_pending.Reads as is-pending-reads
 use Rattle.segment.proofs.is_lock.Reads as is-lock-reads
 
 -- src/soundness.rt:12:9

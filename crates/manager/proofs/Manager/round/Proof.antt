@@ -1,6 +1,6 @@
 use Rattle.manager.specs.CallLaws.{refused-some, round-asked, round-refused, round-accepted, round-memory-refused, round-memory-accepted}
 use Rattle.manager.specs.Calls.{roundNumberOf}
-use Rattle.rounds.specs.Effects.{memoryOf}
+use Rattle.requests.specs.Effects.{memoryOf}
 use Rattle.memory.specs.Numbers.{admissionNumber}
 use mathlib.Core.Path.{sym, ap, _∙_}
 use borrow.Author.Needs.{needs}

@@ -1,6 +1,6 @@
 use Rattle.rounds.specs.AnswerLaws.{sound-counts, turn-sound, image-again, store-again}
 use Rattle.rounds.specs.Halves.{both, take-turn}
-use Rattle.rounds.specs.Effects.{memoryOf}
+use Rattle.requests.specs.Effects.{memoryOf}
 use Rattle.rounds.specs.Close.{lentTo}
 use Rattle.rules.specs.Round.{takeAll}
 use Rattle.machine.specs.Sound.{coreIn}

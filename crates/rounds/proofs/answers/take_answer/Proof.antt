@@ -1,14 +1,14 @@
 use mathlib.Core.Path.{ap, _∙_}
-use Rattle.rounds.specs.Effects.{memoryOf}
+use Rattle.requests.specs.Effects.{memoryOf}
 use Rattle.rounds.specs.AnswerLaws.{free-core, free-memory, locked-core, locked-memory, runs-core, runs-memory}
-use Rattle.rounds.specs.Requests.{request-fits}
+use Rattle.requests.specs.Requests.{request-fits}
 use native.Mathlib.Omega.{arith}
 use borrow.Author.Needs.{needs}
 use Rattle.rounds.proofs.answers.take_answer.Statement.{statement}
 use Rattle.rounds.proofs.answers.take_answer.Tie as tie
 use Rattle.rounds.proofs.answers.take_answer.Reads as reads
 use Rattle.rounds.proofs.answers.take_answer.Lts as lts
-use Rattle.rounds.proofs.requests.take_request.Reads as take-request-reads
+use Rattle.requests.proofs.take_request.Reads as take-request-reads
 
 -- src/answers.rt:37:18
 mul-holder : tie.Need-mul-holder

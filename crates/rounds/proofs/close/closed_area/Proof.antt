@@ -6,7 +6,7 @@ use Rattle.rounds.proofs.close.closed_area.Statement.{statement}
 use Rattle.rounds.proofs.close.closed_area.Tie as tie
 use Rattle.rounds.proofs.close.closed_area.Reads as reads
 use Rattle.rounds.proofs.close.closed_area.Lts as lts
-use Rattle.machine.proofs.jobs.is_pending.Reads as is-pending-reads
+use Rattle.jobs.proofs.is_pending.Reads as is-pending-reads
 use Rattle.rounds.proofs.close.counted.Reads as counted-reads
 use Rattle.rounds.proofs.close.wait_on.Reads as wait-on-reads
 

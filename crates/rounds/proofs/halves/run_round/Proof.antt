@@ -1,6 +1,6 @@
 use lib.ListN.{length-map}
 use mathlib.Core.Path.{ap, _∙_, sym}
-use Rattle.rounds.specs.Effects.{memoryOf}
+use Rattle.requests.specs.Effects.{memoryOf}
 use Rattle.rounds.specs.NeedLaws.{whole-areas, whole-devices, whole-memory}
 use Rattle.rounds.specs.AnswerLaws.{sound-counts}
 use borrow.Author.Needs.{needs}

@@ -5,7 +5,7 @@ use Rattle.rounds.proofs.picks.is_ready.Statement.{statement}
 use Rattle.rounds.proofs.picks.is_ready.Tie as tie
 use Rattle.rounds.proofs.picks.is_ready.Reads as reads
 use Rattle.rounds.proofs.picks.is_ready.Lts as lts
-use Rattle.machine.proofs.jobs.is_pending.Reads as is-pending-reads
+use Rattle.jobs.proofs.is_pending.Reads as is-pending-reads
 
 -- src/picks.rt:91:9
 is-pending-requires : tie.Need-is-pending-requires

@@ -6,7 +6,7 @@ use Rattle.rounds.proofs.picks.needed_device.Statement.{statement}
 use Rattle.rounds.proofs.picks.needed_device.Tie as tie
 use Rattle.rounds.proofs.picks.needed_device.Reads as reads
 use Rattle.rounds.proofs.picks.needed_device.Lts as lts
-use Rattle.machine.proofs.jobs.is_pending.Reads as is-pending-reads
+use Rattle.jobs.proofs.is_pending.Reads as is-pending-reads
 use Rattle.segment.proofs.segment_at.Reads as segment-at-reads
 
 -- src/picks.rt:28:9

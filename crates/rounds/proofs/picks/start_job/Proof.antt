@@ -8,7 +8,7 @@ use Rattle.rounds.proofs.picks.start_job.Statement.{statement}
 use Rattle.rounds.proofs.picks.start_job.Tie as tie
 use Rattle.rounds.proofs.picks.start_job.Reads as reads
 use Rattle.rounds.proofs.picks.start_job.Lts as lts
-use Rattle.machine.proofs.jobs.ended.Reads as ended-reads
+use Rattle.jobs.proofs.ended.Reads as ended-reads
 use Rattle.segment.proofs.is_lock.Reads as is-lock-reads
 
 -- src/picks.rt:138:17

@@ -1,4 +1,4 @@
-use Rattle.rounds.specs.Effects.{memoryOf}
+use Rattle.requests.specs.Effects.{memoryOf}
 use native.Mathlib.Omega.{arith}
 use Rattle.session.specs.PlayLaws.{unreadable-done, call-done, info-done, round-done}
 use borrow.Author.Needs.{needs}

@@ -1,6 +1,6 @@
 use mathlib.Core.Path.{_≡_, _∙_}
 use native.Mathlib.Omega.{arith}
-use Rattle.rounds.specs.Effects.{memoryOf}
+use Rattle.requests.specs.Effects.{memoryOf}
 use Rattle.manager.specs.Calls.{roundNumberOf, afterRound}
 use Rattle.session.specs.RoundLaws.{round-shows, round-refused, round-accepted}
 use borrow.Author.Needs.{needs}

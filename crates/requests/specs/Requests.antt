@@ -1,0 +1,155 @@
+-- What an answer does to the job and the device of the request that takes it.
+use Prim.Native.Nat.{ℕ, _+_, _≤_, _<_}
+use mathlib.Core.Bool.{Bool, true, false}
+use mathlib.Core.List.{List}
+use mathlib.Core.Path.{_≡_, refl, sym, ap, fun-ext, _∙_}
+use native.Mathlib.Omega.{arith}
+use borrow.Author.Tests.{leb-true, le-leb, lt-ltb, le-ltb}
+use lib.Dec.{ltb, leb, eqb}
+use lib.ListN.{length}
+use Rattle.arith.specs.Bounded.{every-elim}
+use Rattle.arith.specs.Cases.{by-bool, by-leb}
+use Rattle.arith.specs.Parts.{upd, upd-case}
+use Rattle.arith.specs.Plain.{plain}
+use Rattle.machine.specs.Sound.{jobRuns, segmentFits, requestSound}
+use Rattle.memory.specs.declared.DeviceAnswer.{DeviceAnswer}
+use Rattle.memory.specs.declared.JobType.{JobType}
+use Rattle.memory.specs.declared.JobType.the-variants.{NoJob, Write, Read, Compare, Erase, BlankCheck, Lock}
+use Rattle.plan.specs.Questions.{areaOf, deviceOf, windowEnd, lengthSum}
+use Rattle.plan.specs.declared.records.Plan.{Plan}
+use Rattle.rules.specs.Admission.{usesWindow, ifAsked, imageFits, storeReaches}
+use Rattle.rules.specs.Layout.{Layout, layoutOf}
+use Rattle.rules.specs.Machine.{Core, Verdict, goesOn, finished, differs, failed, due, withBoth, jobFailed, jobFinished, jobDiffers, afterFinished, isCancelling, takeRunning}
+use Rattle.rules.specs.Memory.{Memory, verdictOf, memoryAfter}
+use Rattle.rules.specs.Round.{windowPlace}
+use Rattle.segment.specs.Segments.{segmentAt}
+use Rattle.segment.specs.declared.Segment.{Segment}
+use Rattle.state.specs.declared.DeviceState.{DeviceState}
+use Rattle.state.specs.declared.DeviceState.the-variants.{Free, Runs, LockedFor}
+use Rattle.state.specs.declared.Job.{Job}
+use Rattle.requests.specs.Effects.{verdict, lentEnd}
+use Rattle.requests.specs.declared.effects.Outcome.{Outcome}
+
+-- The job and the device after a verdict. Test: is the request dropped where it goes on, since "polls reach the patience"?
+abbrev pub takenJob : Layout → ℕ → Verdict → Bool → Job → Job
+takenJob p a goesOn true j = jobFailed j
+takenJob p a goesOn false j = j
+takenJob p a finished t j = jobFinished p a j
+takenJob p a differs t j = jobDiffers j
+takenJob p a failed t j = jobFailed j
+
+abbrev pub takenState : ℕ → ℕ → Verdict → Bool → DeviceState
+takenState a polls goesOn true = Free
+takenState a polls goesOn false = Runs a (polls + 1)
+takenState a polls finished t = Free
+takenState a polls differs t = Free
+takenState a polls failed t = Free
+
+-- area a's request, which device d runs, takes answer x
+abbrev pub requestVerdict : Plan → ℕ → Job → DeviceAnswer → Memory → Verdict
+requestVerdict p a j x m =
+    let s = due (layoutOf p) a j in
+    verdictOf x (j .task .kind) (s .start .0) (windowPlace p a j) (s .length) m
+
+abbrev pub isDropped : Plan → ℕ → ℕ → Bool
+isDropped p d polls = leb (deviceOf (p .devices) d .«poll_limit») (polls + 1)
+
+abbrev pub requestJob : Plan → ℕ → ℕ → ℕ → Job → DeviceAnswer → Memory → Job
+requestJob p d a polls j x m = takenJob (layoutOf p) a (requestVerdict p a j x m) (isDropped p d polls) j
+
+abbrev pub requestState : Plan → ℕ → ℕ → ℕ → Job → DeviceAnswer → Memory → DeviceState
+requestState p d a polls j x m = takenState a polls (requestVerdict p a j x m) (isDropped p d polls)
+
+abbrev pub requestMemory : Plan → ℕ → Job → DeviceAnswer → Memory → Memory
+requestMemory p a j x m =
+    let s = due (layoutOf p) a j in
+    memoryAfter x (j .task .kind) (s .start .0) (windowPlace p a j) (s .length) m
+
+-- the rules say the same
+same-map : {A : Type 0} (f : ℕ → A) (a : ℕ) → f ≡ upd f a (f a)
+same-map f a = fun-ext (λ b. upd-case (λ v. f b ≡ v) f a b (f a) (λ e. ap f (sym e)) (λ _. refl))
+
+pub taken-core : (p : Layout) (d a polls : ℕ) (v : Verdict) (c : Core) →
+    takeRunning p d a polls v (ltb (polls + 1) (p .limit d)) c
+    ≡ withBoth a (takenJob p a v (leb (p .limit d) (polls + 1)) (c .jobs a)) d (takenState a polls v (leb (p .limit d) (polls + 1))) c
+taken-core p d a polls finished c = refl
+taken-core p d a polls differs c = refl
+taken-core p d a polls failed c = refl
+taken-core p d a polls goesOn c =
+    by-leb (p .limit d) (polls + 1)
+    (λ e h. rw (e, le-ltb _ _ h))
+    (λ e h. rw (e, lt-ltb _ _ h) (ap (λ f. record { jobs = f; devices = upd (c .devices) d (Runs a (polls + 1)) }) (same-map (c .jobs) a)))
+
+-- where the segment was the last, the retries of a next one do not count
+pub last-finished : (p : Layout) (a : ℕ) (j : Job) (x : ℕ) → x ≡ j .processed + due p a j .length → j .task .length ≤ x →
+    afterFinished (isCancelling (j .status)) (leb (j .task .length) x) x 0 j ≡ jobFinished p a j
+unfolding jobFinished
+last-finished p a j x e h = rw (← e, le-leb _ _ h) (by-bool (isCancelling (j .status)) (λ f. rw f) (λ f. rw f))
+
+-- the retries of the next
+pub next-finished : (p : Plan) (a : ℕ) (j : Job) (x : ℕ) (s : Segment) → x ≡ j .processed + due (layoutOf p) a j .length →
+    s ≡ segmentAt p a (j .task) x → afterFinished (isCancelling (j .status)) (leb (j .task .length) x) x (s .retries) j ≡ jobFinished (layoutOf p) a j
+unfolding jobFinished layoutOf
+next-finished p a j x s e f = rw (f, e)
+
+-- what a driver gets of the store is there
+lent-asked : (k : JobType) (w n s : ℕ) (q : Bool) → ifAsked (usesWindow k) q ≡ true → (q ≡ true → w + n ≤ s) → lentEnd k w n ≤ s
+lent-asked Write w n s q e f = f e
+lent-asked Read w n s q e f = f e
+lent-asked Compare w n s q e f = f e
+lent-asked Erase w n s q e f = omega arith
+lent-asked BlankCheck w n s q e f = omega arith
+lent-asked Lock w n s q e f = omega arith
+lent-asked NoJob w n s q e f = omega arith
+
+-- what the soundness test and the lent lengths say of a request that runs
+pub record Fits (p : Plan) (d a polls : ℕ) (j : Job) (image store : List ℕ) : Type 0 where
+  pub known : a < p .«area_count»
+  pub few : polls < deviceOf (p .devices) d .«poll_limit»
+  pub device : due (layoutOf p) a j .device ≡ d
+  pub image-fits : due (layoutOf p) a j .start .0 + due (layoutOf p) a j .length ≤ length image
+  pub job-fits : j .processed + due (layoutOf p) a j .length ≤ j .task .length
+  pub store-fits : lentEnd (j .task .kind) (windowPlace p a j) (due (layoutOf p) a j .length) ≤ length store
+
+pub request-fits : (p : Plan) (d a polls : ℕ) (j : Job) (image store : List ℕ) → requestSound p d a polls j ≡ true → imageFits p image ≡ true →
+    storeReaches p store ≡ true → Fits p d a polls j image store
+unfolding requestSound jobRuns segmentFits layoutOf imageFits storeReaches
+request-fits p d a polls j image store e f g =
+    let h = simp plain at e in
+    let image-is = simp plain at f in
+    let window-end : areaOf (p .areas) a .window .start + areaOf (p .areas) a .window .length ≤ length store = leb-true _ _ (every-elim _ _ g a (h .0)) in
+    record {
+      known = h .0;
+      few = h .1 .0 .1 .1;
+      device = h .1 .1 .0;
+      image-fits = omega (arith, h .1 .1 .1 .0, image-is);
+      job-fits = h .1 .1 .1 .1 .0;
+      store-fits = lent-asked (j .task .kind) _ _ _ _ (h .1 .1 .1 .1 .1) (λ q. let e : j .processed + due (layoutOf p) a j .length ≤ areaOf (p .areas) a .window .length = leb-true _ _ q in omega (arith, window-end));
+    }
+
+-- a request that has taken its answer, with the segment that the code found
+module _ (p : Plan) (d a polls : ℕ) (j : Job) (x : DeviceAnswer) (m : Memory) (s : Segment) (is : s ≡ segmentAt p a (j .task) (j .processed)) where
+  module _ (o : Outcome) (v : verdict o ≡ verdictOf x (j .task .kind) (s .start .0) (windowPlace p a j) (s .length) m) where
+    verdict-is : verdict o ≡ requestVerdict p a j x m
+    unfolding layoutOf
+    verdict-is = v ∙ ap (λ t. verdictOf x (j .task .kind) (t .start .0) (windowPlace p a j) (t .length) m) is
+
+    pub job-taken : (r : Job) → r ≡ takenJob (layoutOf p) a (verdict o) (isDropped p d polls) j → r ≡ requestJob p d a polls j x m
+    job-taken r e = e ∙ ap (λ u. takenJob (layoutOf p) a u (isDropped p d polls) j) verdict-is
+
+    pub state-taken : (r : DeviceState) → r ≡ takenState a polls (verdict o) (isDropped p d polls) → r ≡ requestState p d a polls j x m
+    state-taken r e = e ∙ ap (λ u. takenState a polls u (isDropped p d polls)) verdict-is
+
+  pub memory-taken : memoryAfter x (j .task .kind) (s .start .0) (windowPlace p a j) (s .length) m ≡ requestMemory p a j x m
+  unfolding layoutOf
+  memory-taken = ap (λ t. memoryAfter x (j .task .kind) (t .start .0) (windowPlace p a j) (t .length) m) is
+
+  pub due-length : s .length ≡ due (layoutOf p) a j .length
+  unfolding layoutOf
+  due-length = ap (λ t. t .length) is
+
+  -- the request with the segment found fits the lent memory
+  pub found-fits : {image store : List ℕ} → Fits p d a polls j image store →
+      (s .start .0 + s .length ≤ length image) × (lentEnd (j .task .kind) (windowPlace p a j) (s .length) ≤ length store)
+  unfolding layoutOf
+  found-fits f = rw is (f .image-fits, f .store-fits)

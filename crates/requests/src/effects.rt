@@ -1,0 +1,111 @@
+// What a request's answer does to image and store.
+ghost use mathlib.Core.Path.{_≡_};
+ghost use Prim.Native.Nat.{_+_, _≤_, min};
+ghost use lib.ListN.{length};
+ghost use Rattle.rules.specs.Memory.{Memory, imageAfter, storeAfter, agrees, verdictOf, memoryAfter};
+ghost use Rattle.requests.specs.Effects.{verdict, lentEnd, memoryOf};
+use memory::DeviceAnswer;
+use memory::JobType;
+use transfer::blank_part;
+use transfer::erase_part;
+use transfer::read_part;
+use transfer::same_part;
+use transfer::write_part;
+
+// What an answer comes to.
+pub enum Outcome {
+    GoesOn,
+    Finished,
+    Differs,
+    Failed,
+}
+
+// A request that is done: its effect on the lent memory. Answers whether every byte is as the job asks.
+fn finish(
+    kind: JobType,
+    at: usize,
+    window: usize,
+    n: usize,
+    image: &mut [u8],
+    store: &mut [u8],
+) -> bool
+    requires { ⌜ (at + n ≤ length (now image)) × (lentEnd kind window n ≤ length (now store)) ⌝ }
+    ensures { λ r. ⌜ r ≡ agrees kind at window n (memoryOf (now (image .entry)) (now (store .entry))) ⌝ }
+    ensures { λ _. ⌜ now (image .exit) ≡ imageAfter kind at window n (memoryOf (now (image .entry)) (now (store .entry))) ⌝ }
+    ensures { λ _. ⌜ now (store .exit) ≡ storeAfter kind at window n (memoryOf (now (image .entry)) (now (store .entry))) ⌝ }
+{
+    match kind {
+        JobType::Write => {
+            write_part(image, at, store, window, n);
+            true
+        }
+        JobType::Read => {
+            read_part(store, window, image, at, n);
+            true
+        }
+        JobType::Erase => {
+            erase_part(image, at, n);
+            true
+        }
+        JobType::Compare => same_part(image, at, store, window, n),
+        JobType::BlankCheck => blank_part(image, at, n),
+        JobType::Lock => true,
+        JobType::NoJob => true,
+    }
+}
+
+// A request that failed has acted on its first n bytes.
+fn act_on_first(kind: JobType, at: usize, window: usize, n: usize, image: &mut [u8], store: &[u8])
+    requires { ⌜ (at + n ≤ length (now image)) × (lentEnd kind window n ≤ length (now store)) ⌝ }
+    ensures { λ _. ⌜ now (image .exit) ≡ imageAfter kind at window n (memoryOf (now (image .entry)) (now (store .entry))) ⌝ }
+{
+    match kind {
+        JobType::Write => write_part(image, at, store, window, n),
+        JobType::Erase => erase_part(image, at, n),
+        JobType::Read => {}
+        JobType::Compare => {}
+        JobType::BlankCheck => {}
+        JobType::Lock => {}
+        JobType::NoJob => {}
+    }
+}
+
+fn least(k: u32, n: usize) -> usize
+    ensures { λ r. ⌜ r ≡ min k n ⌝ }
+{
+    if (k as usize) < n {
+        return k as usize;
+    }
+    n
+}
+
+// A request of n bytes at `at` in the image and at `window` in the store takes its answer.
+pub fn take_effect(
+    answer: DeviceAnswer,
+    kind: JobType,
+    at: usize,
+    window: usize,
+    n: usize,
+    image: &mut [u8],
+    store: &mut [u8],
+) -> Outcome
+    requires { ⌜ (at + n ≤ length (now image)) × (lentEnd kind window n ≤ length (now store)) ⌝ }
+    ensures { λ r. ⌜ verdict r ≡ verdictOf answer kind at window n (memoryOf (now (image .entry)) (now (store .entry))) ⌝ }
+    ensures { λ _. ⌜ now (image .exit) ≡ memoryAfter answer kind at window n (memoryOf (now (image .entry)) (now (store .entry))) .image ⌝ }
+    ensures { λ _. ⌜ now (store .exit) ≡ memoryAfter answer kind at window n (memoryOf (now (image .entry)) (now (store .entry))) .store ⌝ }
+{
+    match answer {
+        DeviceAnswer::Pending => Outcome::GoesOn,
+        DeviceAnswer::Done => {
+            if finish(kind, at, window, n, image, store) {
+                return Outcome::Finished;
+            }
+            Outcome::Differs
+        }
+        DeviceAnswer::Failed(k) => {
+            let acted = least(k, n);
+            act_on_first(kind, at, window, acted, image, store);
+            Outcome::Failed
+        }
+    }
+}

@@ -1,0 +1,90 @@
+use Prim.Native.Nat.{_+_, _-_, _*_, _≤_}
+use mathlib.Core.Path.{_≡_, refl, ap, ap₂, _∙_}
+use native.Mathlib.Omega.{arith}
+use borrow.Author.Needs.{needs}
+use Rattle.timing.specs.Repeated.{repeated, total, repeated-more, total-more, nextCancel, cancelTotal}
+use Rattle.timing.proofs.luvdrog_time_cancels.Statement.{statement}
+use Rattle.timing.proofs.luvdrog_time_cancels.Tie as tie
+use Rattle.timing.proofs.luvdrog_time_cancels.Reads as reads
+use Rattle.timing.proofs.luvdrog_time_cancels.Lts as lts
+use Rattle.manager.proofs.Manager.cancel.Reads as cancel-reads
+use Rattle.manager.proofs.Manager.load.Reads as load-reads
+use Rattle.memory.proofs.Admission.number.Reads as number-reads
+
+abbrev Inv-loop : tie.InvT-loop
+Inv-loop plan times manager₀ sum₀ i₀ manager sum i =
+    (i ≤ times) × (manager ≡ repeated nextCancel manager₀ i) × (sum ≡ cancelTotal manager₀ i) × (sum ≤ 255 * i)
+
+abbrev μ-loop : tie.MeasureT-loop
+μ-loop plan times manager₀ sum₀ i₀ manager sum i = times - i
+
+-- src/lib.rt:56:9
+load-requires : tie.Need-load-requires Inv-loop μ-loop
+load-requires c κs = search needs
+
+-- src/lib.rt:60:5
+loop-holds : tie.Need-loop-holds Inv-loop μ-loop
+unfolding repeated total
+loop-holds c = (omega arith, refl, refl, omega arith)
+
+-- src/lib.rt:61:39
+cast-cancel : tie.Need-cast-cancel Inv-loop μ-loop
+cast-cancel c = search needs
+
+-- src/lib.rt:61:13
+cancel-requires : tie.Need-cancel-requires Inv-loop μ-loop
+cancel-requires c κs = search needs
+
+-- src/lib.rt:63:13
+number-requires : tie.Need-number-requires Inv-loop μ-loop
+number-requires c κs = search needs
+
+-- src/lib.rt:64:16
+cast-sum : tie.Need-cast-sum Inv-loop μ-loop
+cast-sum c = search needs
+
+-- src/lib.rt:64:9
+add-sum : tie.Need-add-sum Inv-loop μ-loop
+add-sum c = search needs
+
+-- src/lib.rt:66:9
+add-i : tie.Need-add-i Inv-loop μ-loop
+add-i c = search needs
+
+-- src/lib.rt:60:5
+loop-less : tie.Need-loop-less Inv-loop μ-loop
+loop-less c = search needs
+
+-- src/lib.rt:60:5
+loop-again : tie.Need-loop-again Inv-loop μ-loop
+loop-again c =
+    let inv = c .before .before .before .before .loop .inv in
+    let called = c .before .before .cancel .ensures in
+    let told = c .before .number .ensures in (
+      omega arith,
+      rw (repeated-more, ← (inv .1)) (called .1),
+      rw (total-more, ← (inv .1), ← (inv .2)) (ap (_+_ _) (told ∙ called .0)),
+      omega arith,
+    )
+
+-- src/lib.rt:52:1
+returns : tie.Need-returns Inv-loop μ-loop
+returns c = c .before .loop .inv .2 ∙ ap₂ cancelTotal (c .before .before .before .load .ensures .1) (omega arith)
+
+pub luvdrog-time-cancels-spec : {M : Type 1} → statement M
+luvdrog-time-cancels-spec =
+    tie.close
+    (tie.spec
+    Inv-loop
+    μ-loop
+    load-requires
+    loop-holds
+    cast-cancel
+    cancel-requires
+    number-requires
+    cast-sum
+    add-sum
+    add-i
+    loop-less
+    loop-again
+    returns)

@@ -1,0 +1,82 @@
+use Prim.Native.Nat.{_+_, _-_, _*_, _≤_}
+use mathlib.Core.Path.{_≡_, refl, ap, ap₂, _∙_}
+use native.Mathlib.Omega.{arith}
+use borrow.Author.Needs.{needs}
+use Rattle.timing.specs.Repeated.{repeated, total, total-more, repeated-query, infoTotal}
+use Rattle.timing.proofs.luvdrog_time_infos.Statement.{statement}
+use Rattle.timing.proofs.luvdrog_time_infos.Tie as tie
+use Rattle.timing.proofs.luvdrog_time_infos.Reads as reads
+use Rattle.timing.proofs.luvdrog_time_infos.Lts as lts
+use Rattle.manager.proofs.Manager.job_info.Reads as job-info-reads
+use Rattle.timing.proofs.busy.Reads as busy-reads
+
+abbrev Inv-loop : tie.InvT-loop
+Inv-loop plan kind length times manager sum₀ i₀ sum i =
+    (i ≤ times) × (sum ≡ infoTotal manager i) × (sum ≤ 4294967295 * i)
+
+abbrev μ-loop : tie.MeasureT-loop
+μ-loop plan kind length times manager sum₀ i₀ sum i = times - i
+
+-- src/lib.rt:121:9
+busy-requires : tie.Need-busy-requires Inv-loop μ-loop
+busy-requires c κs = search needs
+
+-- src/lib.rt:124:5
+loop-holds : tie.Need-loop-holds Inv-loop μ-loop
+unfolding repeated total
+loop-holds c = (omega arith, refl, omega arith)
+
+-- src/lib.rt:125:38
+cast-job-info : tie.Need-cast-job-info Inv-loop μ-loop
+cast-job-info c = search needs
+
+-- src/lib.rt:125:13
+job-info-requires : tie.Need-job-info-requires Inv-loop μ-loop
+job-info-requires c κs = search needs
+
+-- src/lib.rt:128:16
+cast-sum : tie.Need-cast-sum Inv-loop μ-loop
+cast-sum c = search needs
+
+-- src/lib.rt:128:9
+add-sum : tie.Need-add-sum Inv-loop μ-loop
+add-sum c = search needs
+
+-- src/lib.rt:129:9
+add-i : tie.Need-add-i Inv-loop μ-loop
+add-i c = search needs
+
+-- src/lib.rt:124:5
+loop-less : tie.Need-loop-less Inv-loop μ-loop
+loop-less c = search needs
+
+-- src/lib.rt:124:5
+loop-again : tie.Need-loop-again Inv-loop μ-loop
+loop-again c =
+    let here = c .before .before .before .before .before .loop in
+    let asked = c .before .before .before .job-info .ensures in (
+      omega arith,
+      rw (total-more, repeated-query, ← (here .inv .1)) (ap (λ info. here .sum + info .task .length) (asked .1)),
+      omega arith,
+    )
+
+-- src/lib.rt:117:1
+returns : tie.Need-returns Inv-loop μ-loop
+returns c = c .before .loop .inv .1 ∙ ap₂ infoTotal (c .before .before .busy .ensures) (omega arith)
+
+pub luvdrog-time-infos-spec : {M : Type 1} → statement M
+luvdrog-time-infos-spec =
+    tie.close
+    (tie.spec
+    Inv-loop
+    μ-loop
+    busy-requires
+    loop-holds
+    cast-job-info
+    job-info-requires
+    cast-sum
+    add-sum
+    add-i
+    loop-less
+    loop-again
+    returns)

@@ -1,0 +1,90 @@
+use Prim.Native.Nat.{_+_, _-_, _*_, _≤_}
+use mathlib.Core.Path.{_≡_, refl, ap, ap₂, _∙_}
+use native.Mathlib.Omega.{arith}
+use borrow.Author.Needs.{needs}
+use Rattle.timing.specs.Repeated.{repeated, total, repeated-more, total-more, nextJob, jobTotal}
+use Rattle.timing.proofs.luvdrog_time_jobs.Statement.{statement}
+use Rattle.timing.proofs.luvdrog_time_jobs.Tie as tie
+use Rattle.timing.proofs.luvdrog_time_jobs.Reads as reads
+use Rattle.timing.proofs.luvdrog_time_jobs.Lts as lts
+use Rattle.manager.proofs.Manager.load.Reads as load-reads
+use Rattle.memory.proofs.Admission.number.Reads as number-reads
+use Rattle.timing.proofs.submit.Reads as submit-reads
+
+abbrev Inv-loop : tie.InvT-loop
+Inv-loop plan kind length times manager₀ sum₀ i₀ manager sum i =
+    (i ≤ times) × (manager ≡ repeated (nextJob kind length) manager₀ i) × (sum ≡ jobTotal kind length manager₀ i) × (sum ≤ 255 * i)
+
+abbrev μ-loop : tie.MeasureT-loop
+μ-loop plan kind length times manager₀ sum₀ i₀ manager sum i = times - i
+
+-- src/lib.rt:76:9
+load-requires : tie.Need-load-requires Inv-loop μ-loop
+load-requires c κs = search needs
+
+-- src/lib.rt:80:5
+loop-holds : tie.Need-loop-holds Inv-loop μ-loop
+unfolding repeated total
+loop-holds c = (omega arith, refl, refl, omega arith)
+
+-- src/lib.rt:81:46
+cast-submit : tie.Need-cast-submit Inv-loop μ-loop
+cast-submit c = search needs
+
+-- src/lib.rt:81:13
+submit-requires : tie.Need-submit-requires Inv-loop μ-loop
+submit-requires c κs = search needs
+
+-- src/lib.rt:83:13
+number-requires : tie.Need-number-requires Inv-loop μ-loop
+number-requires c κs = search needs
+
+-- src/lib.rt:84:16
+cast-sum : tie.Need-cast-sum Inv-loop μ-loop
+cast-sum c = search needs
+
+-- src/lib.rt:84:9
+add-sum : tie.Need-add-sum Inv-loop μ-loop
+add-sum c = search needs
+
+-- src/lib.rt:86:9
+add-i : tie.Need-add-i Inv-loop μ-loop
+add-i c = search needs
+
+-- src/lib.rt:80:5
+loop-less : tie.Need-loop-less Inv-loop μ-loop
+loop-less c = search needs
+
+-- src/lib.rt:80:5
+loop-again : tie.Need-loop-again Inv-loop μ-loop
+loop-again c =
+    let inv = c .before .before .before .before .loop .inv in
+    let called = c .before .before .submit .ensures in
+    let told = c .before .number .ensures in (
+      omega arith,
+      rw (repeated-more, ← (inv .1)) (called .1),
+      rw (total-more, ← (inv .1), ← (inv .2)) (ap (_+_ _) (told ∙ called .0)),
+      omega arith,
+    )
+
+-- src/lib.rt:72:1
+returns : tie.Need-returns Inv-loop μ-loop
+returns c = c .before .loop .inv .2 ∙ ap₂ (jobTotal _ _) (c .before .before .before .load .ensures .1) (omega arith)
+
+pub luvdrog-time-jobs-spec : {M : Type 1} → statement M
+luvdrog-time-jobs-spec =
+    tie.close
+    (tie.spec
+    Inv-loop
+    μ-loop
+    load-requires
+    loop-holds
+    cast-submit
+    submit-requires
+    number-requires
+    cast-sum
+    add-sum
+    add-i
+    loop-less
+    loop-again
+    returns)

@@ -1,0 +1,78 @@
+//! The comparison of sessions itself: what its sessions try, that it finds subjects that are wrong,
+//! and how small it makes what it finds.
+
+mod mutants;
+
+use model::coverage::Coverage;
+use model::fuzz::{fuzz, Ending};
+use model::random::Random;
+use model::script::Script;
+use model::shrink::{report, smallest};
+use model::subject::{compare, Model, Subject};
+use std::path::Path;
+use std::time::Duration;
+
+const SESSIONS: u32 = 3_000;
+const MOST_LINES: usize = 200;
+
+/// The first difference in so many sessions.
+fn first_difference(subject: &mut dyn Subject, seed: u64, sessions: u32) -> Option<Script> {
+    let mut random = Random::new(seed);
+    let mut scripts = (0..sessions).map(|_| Script::drawn(&mut random, MOST_LINES));
+    scripts.find(|script| compare(subject, script).is_err())
+}
+
+#[test]
+fn the_sessions_try_everything() {
+    let mut random = Random::new(61);
+    let mut coverage = Coverage::default();
+    for _ in 0..SESSIONS {
+        let script = Script::drawn(&mut random, MOST_LINES);
+        let outcome = compare(&mut Model, &script).expect("the model is the model");
+        coverage.add(&script, &outcome.output);
+    }
+    println!("{coverage}");
+    assert_eq!(coverage.rarer_than(3), []);
+}
+
+#[test]
+fn every_mutant_is_found() {
+    for (number, mut mutant) in (0..).zip(mutants::all()) {
+        let found = first_difference(&mut mutant, 62 + number, SESSIONS);
+        assert!(found.is_some(), "{} was not found", mutant.name);
+    }
+}
+
+/// What is found is made so small that a person sees what is wrong.
+#[test]
+fn what_is_found_is_made_small() {
+    for (number, mut mutant) in (0..).zip(mutants::all()) {
+        let script = first_difference(&mut mutant, 162 + number, SESSIONS).expect("found");
+        let small = smallest(script, &mut |script| compare(&mut mutant, script).is_err());
+        let difference = compare(&mut mutant, &small).expect_err("still different");
+        println!("{}\n{}", mutant.name, report(&small, &difference));
+        assert!(small.lines.len() <= 8, "{}: {small:?}", mutant.name);
+        assert!(small.plan.len() <= 200, "{}: {small:?}", mutant.name);
+    }
+}
+
+/// A run with ever new seeds ends with the time, or with a file that says all about a difference.
+#[test]
+fn fuzzing_ends_with_the_time_or_a_report() {
+    let folder = Path::new(env!("CARGO_TARGET_TMPDIR")).join("differences");
+    let run = |subject: &mut dyn Subject, milliseconds| {
+        let time = Duration::from_millis(milliseconds);
+        fuzz(subject, 71, time, &folder, &mut |_| {}).expect("a folder to write to")
+    };
+    match run(&mut Model, 200) {
+        Ending::NoDifference(coverage) => assert!(coverage.lines > 0),
+        Ending::Difference(file) => panic!("the model differs from itself: {file:?}"),
+    }
+    let Ending::Difference(file) = run(&mut mutants::all()[0], 60_000) else {
+        panic!("not found in a minute");
+    };
+    let report = std::fs::read_to_string(file).expect("a report");
+    for part in ["difference: ", "plan (hex): ", "input:\n", "of the model:\n", "found:\n"] {
+        assert!(report.contains(part), "{report}");
+    }
+}

@@ -1,0 +1,231 @@
+//! Subjects that are wrong on purpose: the model with its plan, its lines or its output changed on
+//! the way. The comparison must find each of them.
+
+use model::plan::{self, Plan};
+use model::plans::encode;
+use model::subject::{Model, Subject};
+
+/// From plan, input, image and store to the output.
+type WrongSession = fn(&[u8], &[u8], &mut [u8], &mut [u8]) -> Vec<u8>;
+
+pub struct Mutant {
+    pub name: &'static str,
+    session: WrongSession,
+}
+
+impl Subject for Mutant {
+    fn session(
+        &mut self,
+        plan: &[u8],
+        input: &[u8],
+        image: &mut [u8],
+        store: &mut [u8],
+    ) -> Vec<u8> {
+        (self.session)(plan, input, image, store)
+    }
+}
+
+pub fn all() -> Vec<Mutant> {
+    let mut all = of_plans();
+    all.extend(of_lines());
+    all.extend(of_outputs());
+    all.extend(of_memory());
+    all
+}
+
+/// The plan with a change, where it can be loaded.
+fn changed(plan: &[u8], change: fn(&mut Plan)) -> Vec<u8> {
+    match plan::load(plan) {
+        Ok(mut records) => {
+            change(&mut records);
+            encode(&records)
+        }
+        Err(_) => plan.to_vec(),
+    }
+}
+
+/// Makes a mutant of a change to the plan.
+macro_rules! plan_mutant {
+    ($name:expr, $change:expr) => {
+        Mutant {
+            name: $name,
+            session: |plan, input, image, store| {
+                Model.session(&changed(plan, $change), input, image, store)
+            },
+        }
+    };
+}
+
+fn of_plans() -> Vec<Mutant> {
+    vec![
+        plan_mutant!("one poll more than the patience", |p| p
+            .devices
+            .iter_mut()
+            .for_each(|d| { d.patience = d.patience.saturating_add(1) })),
+        plan_mutant!("no write retries", |p| p
+            .sub_areas
+            .iter_mut()
+            .for_each(|s| s.write_retries = 0)),
+        plan_mutant!("erases retried as often as writes", |p| p
+            .sub_areas
+            .iter_mut()
+            .for_each(|s| s.erase_retries = s.write_retries)),
+        plan_mutant!("all priorities equal", |p| p.areas.iter_mut().for_each(|a| a.priority = 0)),
+        plan_mutant!("no page bursts", |p| p
+            .sub_areas
+            .iter_mut()
+            .for_each(|s| s.page_burst = s.page)),
+        plan_mutant!("no sector bursts", |p| p
+            .sub_areas
+            .iter_mut()
+            .for_each(|s| s.sector_burst = s.sector)),
+        plan_mutant!("reads of the smallest size", |p| p
+            .sub_areas
+            .iter_mut()
+            .for_each(|s| s.largest_read = s.smallest_read)),
+        plan_mutant!("windows without their last byte", |p| p
+            .areas
+            .iter_mut()
+            .for_each(|a| a.window_length = a.window_length.saturating_sub(1))),
+    ]
+}
+
+/// The input with every line changed; ends stay.
+fn with_lines(input: &[u8], change: impl Fn(&[u8]) -> Vec<u8>) -> Vec<u8> {
+    let lines: Vec<_> = input.split(|byte| *byte == b'\n').map(change).collect();
+    lines.join(&b'\n')
+}
+
+/// The line with every answer of a failed request changed.
+fn with_failures(line: &[u8], k: &[u8]) -> Vec<u8> {
+    let fields: Vec<_> = line.split(|byte| *byte == b' ').collect();
+    let is_number = |field: &[u8]| !field.is_empty() && field.iter().all(u8::is_ascii_digit);
+    let mut changed = fields.clone();
+    if fields[0] == b"0" {
+        changed.iter_mut().skip(1).filter(|field| is_number(field)).for_each(|field| *field = k);
+    }
+    changed.join(&b' ')
+}
+
+/// Makes a mutant of a change to every line.
+macro_rules! line_mutant {
+    ($name:expr, $change:expr) => {
+        Mutant {
+            name: $name,
+            session: |plan, input, image, store| {
+                Model.session(plan, &with_lines(input, $change), image, store)
+            },
+        }
+    };
+}
+
+fn of_lines() -> Vec<Mutant> {
+    vec![
+        line_mutant!("failed requests have acted on nothing", |l| with_failures(l, b"0")),
+        line_mutant!("failed requests have acted on all bytes", |l| with_failures(l, b"99999999")),
+        line_mutant!("failed is pending", |l| with_failures(l, b"p")),
+        line_mutant!("leading zeros are not read", |l| {
+            let has_zero = |f: &[u8]| f.len() > 1 && f[0] == b'0';
+            if l.split(|b| *b == b' ').any(has_zero) {
+                b"?".to_vec()
+            } else {
+                l.to_vec()
+            }
+        }),
+        line_mutant!("long lines are cut", |l| l[..l.len().min(4_096)].to_vec()),
+        line_mutant!("lines of 4,096 bytes are too long", |l| {
+            if l.len() == 4_096 {
+                b"?".to_vec()
+            } else {
+                l.to_vec()
+            }
+        }),
+        line_mutant!("carriage returns are dropped", |l| {
+            l.iter().copied().filter(|b| *b != b'\r').collect()
+        }),
+        line_mutant!("tabs are spaces", |l| {
+            l.iter().map(|b| if *b == b'\t' { b' ' } else { *b }).collect()
+        }),
+        line_mutant!("spaces at the end are dropped", |l| l.trim_ascii_end().to_vec()),
+        line_mutant!("erases check for blank", |l| match l {
+            [b'4', b' ', rest @ ..] => [b"6 ", rest].concat(),
+            _ => l.to_vec(),
+        }),
+        Mutant {
+            name: "a last line without its end is not read",
+            session: |plan, input, image, store| {
+                let end = input.iter().rposition(|byte| *byte == b'\n').map_or(0, |end| end + 1);
+                Model.session(plan, &input[..end], image, store)
+            },
+        },
+    ]
+}
+
+/// The output with every line changed.
+macro_rules! output_mutant {
+    ($name:expr, $change:expr) => {
+        Mutant {
+            name: $name,
+            session: |plan, input, image, store| {
+                with_lines(&Model.session(plan, input, image, store), $change)
+            },
+        }
+    };
+}
+
+/// Info with two of its fields exchanged.
+fn exchanged(line: &[u8], one: usize, other: usize) -> Vec<u8> {
+    let mut fields: Vec<_> = line.split(|byte| *byte == b' ').collect();
+    if fields.len() == 6 && fields[0] != b"R" {
+        fields.swap(one, other);
+    }
+    fields.join(&b' ')
+}
+
+/// One number in the place of another.
+fn replaced(line: &[u8], one: &[u8], other: &[u8]) -> Vec<u8> {
+    if line == one { other } else { line }.to_vec()
+}
+
+fn of_outputs() -> Vec<Mutant> {
+    vec![
+        output_mutant!("above and below exchanged", |l| exchanged(l, 3, 4)),
+        output_mutant!("own and locked exchanged", |l| exchanged(l, 2, 5)),
+        output_mutant!("every job succeeds", |l| match l {
+            [b'1' | b'2' | b'3', b' ', rest @ ..] => [b"0 ", rest].concat(),
+            _ => l.to_vec(),
+        }),
+        output_mutant!("question 11 after 12", |l| replaced(l, b"11", b"12")),
+        output_mutant!("cancels of idle areas accepted", |l| replaced(l, b"17", b"0")),
+        output_mutant!("locks over two devices refused by 12", |l| replaced(l, b"15", b"12")),
+        output_mutant!("releases by any area", |l| replaced(l, b"16", b"0")),
+        output_mutant!("question 7 not asked of plans", |l| replaced(l, b"7", b"8")),
+    ]
+}
+
+fn of_memory() -> Vec<Mutant> {
+    vec![
+        Mutant {
+            name: "reads do not reach the store",
+            session: |plan, input, image, store| {
+                Model.session(plan, input, image, &mut store.to_vec())
+            },
+        },
+        Mutant {
+            name: "writes do not reach the image",
+            session: |plan, input, image, store| {
+                Model.session(plan, input, &mut image.to_vec(), store)
+            },
+        },
+        Mutant {
+            name: "rounds take any store",
+            session: |plan, input, image, store| {
+                let mut longer = store.to_vec();
+                longer.resize(store.len().max(65_536), 0);
+                let output = Model.session(plan, input, image, &mut longer);
+                store.copy_from_slice(&longer[..store.len()]);
+                output
+            },
+        },
+    ]
+}
