@@ -1,6 +1,6 @@
 -- The definitions of a line, evaluated: the printed session's lines and others of each type, then one line for each reason of "?"
 use mathlib.Core.Path.{_≡_, refl}
-use mathlib.Core.List.{List, [], _∷_}
+use mathlib.Core.List.{[], _∷_}
 use lib.ListN.{replicate}
 use Rattle.arith.specs.Bounded.{every}
 use Rattle.memory.specs.declared.DeviceAnswer.the-variants.{Pending, Done, Failed}

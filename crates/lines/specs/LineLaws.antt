@@ -1,12 +1,12 @@
 -- The lines by the cases that the code takes apart. F, G, .. are the fields from some byte on.
 use Prim.Native.Nat.{ℕ, _≤_, _<_}
-use mathlib.Core.Path.{_≡_, refl, _∙_}
+use mathlib.Core.Path.{_≡_, _∙_}
 use mathlib.Core.Bool.{true, false}
-use mathlib.Core.List.{List, [], _∷_}
+use mathlib.Core.List.{List, _∷_}
 use borrow.Author.Tests.{lt-ltb, le-ltb}
 use lib.ListN.{length}
 use Rattle.memory.specs.declared.DeviceAnswer.the-variants.{Pending}
-use Rattle.lines.specs.Fields.{fieldsOf, fieldsFrom, fields-all, fields-past, rest, isLast}
+use Rattle.lines.specs.Fields.{fieldsFrom, fields-all, fields-past, rest, isLast}
 use Rattle.lines.specs.Number.{numberOf}
 use Rattle.lines.specs.Lines.{firstNumber, onlyNumber, targetIn, targetOf, answerOf, firstAnswer, answerFor, restFor, roundIn, answersOf, lineOfType, lineOf}
 use Rattle.lines.specs.declared.AnswerWord.{AnswerWord}

@@ -1,11 +1,10 @@
 -- document 01, "A printed session": what a line asks for, and which lines print "?"
-use Prim.Native.Nat.{ℕ, zero, suc, _+_}
+use Prim.Native.Nat.{ℕ}
 use mathlib.Core.Bool.{Bool, _&&_}
 use mathlib.Core.List.{List, [], _∷_}
-use lib.Dec.{ltb, leb, eqb}
-use lib.ListN.{length, getD, set, replicate}
+use lib.Dec.{ltb, eqb}
+use lib.ListN.{length, getD}
 use Rattle.arith.specs.Cases.{pick}
-use Rattle.memory.specs.declared.DeviceAnswer.{DeviceAnswer}
 use Rattle.memory.specs.declared.DeviceAnswer.the-variants.{Pending, Done, Failed}
 use Rattle.memory.specs.declared.JobType.{JobType}
 use Rattle.memory.specs.declared.JobType.the-variants.{NoJob, Write, Read, Compare, Erase, BlankCheck, Lock}
@@ -13,7 +12,6 @@ use Rattle.lines.specs.Fields.{fieldsOf, rest, isLast}
 use Rattle.lines.specs.Number.{numberOf}
 use Rattle.lines.specs.declared.AnswerWord.{AnswerWord}
 use Rattle.lines.specs.declared.AnswerWord.the-variants.{NoAnswer, Answer}
-use Rattle.lines.specs.declared.LineCall.{LineCall}
 use Rattle.lines.specs.declared.LineCall.the-variants as Calls
 use Rattle.lines.specs.declared.Line.{Line}
 use Rattle.lines.specs.declared.Line.the-variants.{Unreadable, Call, Info, Round}

@@ -2,7 +2,7 @@
 ghost use mathlib.Core.Path.{_≡_};
 ghost use Prim.Native.Nat.{_≤_, _<_};
 ghost use lib.ListN.{length};
-ghost use Rattle.lines.specs.Fields.{cutFrom, fieldsFrom, rest, isLast, word};
+ghost use Rattle.lines.specs.Fields.{cutFrom, fieldsFrom, rest, word};
 ghost use Rattle.lines.specs.Lines.{firstNumber, onlyNumber, targetIn, targetOf, isLetter, failedAfter, answerOf, firstAnswer, answerFor, restFor, roundIn, answersOf, roundLine, kindOf, jobIn, jobLine, releaseLine, cancelLine, infoLine, lineOfType, lineOf};
 ghost use Rattle.lines.specs.Number.{numberOf};
 ghost use mathlib.Core.List.{_∷_};

@@ -1,11 +1,10 @@
 -- The lines by the cases that the code takes apart.
 use Prim.Native.Nat.{ℕ, _+_, _-_, _≤_, _<_}
 use mathlib.Core.Bool.{Bool, true, false, true≢false, false≢true}
-use mathlib.Core.List.{List, [], _∷_, _++_}
-use mathlib.Core.Path.{_≡_, refl, sym, ap, _∙_}
+use mathlib.Core.List.{List, [], _∷_}
+use mathlib.Core.Path.{_≡_, refl, ap, _∙_}
 use native.Mathlib.Omega.{arith}
 use borrow.Author.Tests.{lt-ltb, le-ltb, le-leb, lt-leb}
-use lib.Dec.{leb}
 use lib.ListN.{length, take, length-take, length-drop}
 use lib.Seq.{length-take-le}
 use Rattle.lines.specs.Fields.{isLast, word}
@@ -14,7 +13,7 @@ use Rattle.manager.specs.declared.Manager.{Manager}
 use Rattle.requests.specs.Effects.{memoryOf}
 use Rattle.rules.specs.Memory.{Memory}
 use Rattle.texts.specs.Appended.{Appended}
-use Rattle.session.specs.Fold.{Session, played, playedLast, hasRoom, playedLines, playedInput, opened, playedAll}
+use Rattle.session.specs.Fold.{Session, played, playedLast, playedLines, playedInput, opened, playedAll}
 use Rattle.session.specs.PlanText.{planText}
 use Rattle.session.specs.Play.{playedText, playedManager, playedMemory}
 

@@ -1,7 +1,6 @@
 -- document 01, "A printed session": what a line does and prints. The calls are those of the manager (manager, Calls).
 use Prim.Native.Nat.{ℕ}
 use mathlib.Core.List.{List, [], _∷_}
-use lib.Dec.{eqb}
 use Rattle.lines.specs.Lines.{lineOf}
 use Rattle.lines.specs.declared.Line.{Line}
 use Rattle.lines.specs.declared.Line.the-variants.{Unreadable, Call, Info, Round}

@@ -2,20 +2,20 @@
 use Prim.Native.Nat.{ℕ, _≤_, _<_}
 use mathlib.Core.Bool.{true}
 use mathlib.Core.List.{List}
-use mathlib.Core.Path.{_≡_, refl, ap, sym, _∙_}
+use mathlib.Core.Path.{_≡_, ap}
 use native.Mathlib.Omega.{arith}
 use borrow.Author.Tests.{eq-eqb, ne-eqb}
 use Rattle.arith.specs.Cases.{by-bool}
 use Rattle.arith.specs.Tables.{table-at}
-use Rattle.machine.specs.Sound.{isSound, stateIn, coreIn}
+use Rattle.machine.specs.Sound.{isSound, stateIn}
 use Rattle.manager.specs.Calls.{coreOf, roundNumberOf, afterRound}
 use Rattle.manager.specs.declared.Manager.{Manager}
 use Rattle.memory.specs.declared.DeviceAnswer.{DeviceAnswer}
-use Rattle.rounds.specs.Close.{areasAfter, deviceAfter, devicesAfter, lentTo, halvesOf}
+use Rattle.rounds.specs.Close.{deviceAfter, devicesAfter, lentTo, halvesOf}
 use Rattle.rules.specs.Machine.{Core}
 use Rattle.rules.specs.Memory.{Memory}
 use Rattle.rules.specs.Round.{roundHalves}
-use Rattle.shown.specs.Known.{RunsBelow, AllBelow, runs-more, round-below, sound-below, sound-counts}
+use Rattle.shown.specs.Known.{AllBelow, runs-more, round-below, sound-below, sound-counts}
 use Rattle.shown.specs.Shown.{devicesLine}
 use Rattle.state.specs.Fresh.{freeDevice}
 use Rattle.state.specs.declared.Device.{Device}

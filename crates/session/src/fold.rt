@@ -1,7 +1,7 @@
 // The lines of an input, played one after the other.
 ghost use mathlib.Core.Path.{_≡_};
 ghost use Prim.Native.Nat.{_+_, _≤_};
-ghost use lib.ListN.{length, take};
+ghost use lib.ListN.{length};
 ghost use Rattle.session.specs.Fold.{playedLast, playedInput};
 ghost use Rattle.session.specs.FoldLaws.{sessionOf};
 use crate::play::play;

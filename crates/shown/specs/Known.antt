@@ -2,21 +2,20 @@
 use Prim.Native.Nat.{ℕ, zero, suc, _+_, _≤_, _<_}
 use mathlib.Core.Bool.{Bool, true, false}
 use mathlib.Core.List.{List}
-use mathlib.Core.Path.{_≡_, refl}
+use mathlib.Core.Path.{_≡_}
 use native.Mathlib.Omega.{arith}
 use lib.Dec.{ltb}
 use borrow.Author.Tests.{ltb-true}
 use Rattle.arith.specs.Bounded.{every-elim}
-use Rattle.arith.specs.Cases.{pick, by-bool}
+use Rattle.arith.specs.Cases.{by-bool}
 use Rattle.arith.specs.Parts.{upd-case}
 use Rattle.arith.specs.Plain.{and-plain}
-use Rattle.machine.specs.Sound.{isSound, requestSound, stateSound, jobIn, stateIn, coreIn}
+use Rattle.machine.specs.Sound.{isSound, requestSound, stateSound, jobIn, stateIn}
 use Rattle.memory.specs.declared.DeviceAnswer.{DeviceAnswer}
 use Rattle.plan.specs.SizeLaws.{counts}
 use Rattle.plan.specs.declared.records.Plan.{Plan}
 use Rattle.rules.specs.Layout.{Layout, layoutOf}
 use Rattle.rules.specs.Machine.{Core, Verdict, goesOn, finished, differs, failed, takeRunning, takeOn, takeAnswer, Choice, nobody, area, better, ready, best, startJob, startChoice, startOn, start, secondHalf}
-use Rattle.rules.specs.Memory.{Memory}
 use Rattle.rules.specs.Round.{Half, answerOf, verdictOn, takeIn, takeAll, roundHalves}
 use Rattle.segment.specs.Segments.{isLock}
 use Rattle.state.specs.declared.Area.{Area}

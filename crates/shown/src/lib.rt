@@ -1,6 +1,5 @@
 // What a round shows of its devices (document 01, "A printed session").
-ghost use mathlib.Core.Path.{_≡_};
-ghost use Prim.Native.Nat.{_+_, _*_, _≤_, _<_};
+ghost use Prim.Native.Nat.{_+_, _≤_, _<_};
 ghost use lib.ListN.{length};
 ghost use Rattle.machine.specs.Sound.{jobIn, stateIn, coreIn};
 ghost use Rattle.rules.specs.Session.{shownOn, shownTo};

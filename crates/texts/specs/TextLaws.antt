@@ -1,15 +1,13 @@
 -- Laws of the digits.
-use Prim.Native.Nat.{ℕ, zero, suc, _+_, _-_, _*_, _/_, _%_, _^_, _≤_, _<_}
-use mathlib.Core.Path.{_≡_, refl, sym, ap, _∙_}
-use mathlib.Core.Bool.{true, false}
+use Prim.Native.Nat.{ℕ, zero, suc, _+_, _-_, _*_, _^_, _≤_, _<_}
+use mathlib.Core.Path.{_≡_, refl, ap}
 use mathlib.Core.List.{List, [], _∷_, _++_, append-assoc, append-nil}
-use native.Mathlib.Nat.{pow-suc, pow-le-pow-right, mod-lt}
+use native.Mathlib.Nat.{pow-suc, pow-le-pow-right}
 use native.Mathlib.Numerals.{add-one}
 use native.Mathlib.Omega.{arith}
-use lib.Dec.{leb}
-use lib.ListN.{length, take, length-append}
+use lib.ListN.{length, take}
 use Rattle.arith.specs.Bounded.{sum, sum-bound, sum-more}
-use Rattle.arith.specs.Cases.{pick, by-leb}
+use Rattle.arith.specs.Cases.{by-leb}
 use Rattle.texts.specs.Appended.{Appended, append-more, append-same}
 use Rattle.texts.specs.Texts.{digitOf, digitsOf, reaches, digitCount, decimal, behind, numberLine, infoLine, requestText}
 

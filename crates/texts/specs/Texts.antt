@@ -1,5 +1,5 @@
 -- document 01, "A printed session": what is printed. "Numbers are in decimal digits, and one space separates fields."
-use Prim.Native.Nat.{ℕ, zero, suc, _+_, _*_, _/_, _%_, _^_}
+use Prim.Native.Nat.{ℕ, zero, suc, _+_, _/_, _%_, _^_}
 use mathlib.Core.List.{List, [], _∷_, _++_}
 use lib.Dec.{leb}
 use Rattle.arith.specs.Bounded.{sum}

@@ -1,4 +1,3 @@
-use lib.ListN.{length-drop}
 use native.Mathlib.Omega.{arith}
 use borrow.Author.Needs.{needs}
 use Rattle.bench_run.proofs.take_turn.Statement.{statement}

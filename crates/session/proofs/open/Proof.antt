@@ -3,7 +3,6 @@ use native.Mathlib.Omega.{arith}
 use Rattle.plan.specs.Questions.{loadNumber}
 use Rattle.texts.specs.Appended.{append-none, append-same}
 use Rattle.session.specs.PlanText.{kept-sum, few-devices, number-some, text-long, text-refused, text-sum, text-accepted, image-none, image-sum}
-use borrow.Author.Tests.{le-ltb, lt-ltb}
 use borrow.Author.Needs.{needs}
 use Rattle.session.proofs.open.Statement.{statement}
 use Rattle.session.proofs.open.Tie as tie

@@ -1,11 +1,10 @@
-use mathlib.Core.Path.{_≡_, ap, _∙_}
+use mathlib.Core.Path.{ap, _∙_}
 use lib.ListN.{length}
 use native.Mathlib.Omega.{arith}
 use Rattle.requests.specs.Effects.{memoryOf}
 use Rattle.manager.specs.Load.{loadedManager}
-use Rattle.session.specs.Fold.{Session, playedAll}
+use Rattle.session.specs.Fold.{Session}
 use Rattle.session.specs.FoldLaws.{all-full, all-refused, all-lines, session-parts}
-use borrow.Author.Tests.{le-ltb, lt-ltb}
 use borrow.Author.Needs.{needs}
 use Rattle.session.proofs.play_all.Statement.{statement}
 use Rattle.session.proofs.play_all.Tie as tie

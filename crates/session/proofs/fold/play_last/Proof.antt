@@ -2,7 +2,6 @@ use borrow.Author.Tests.{not-true, not-false}
 use mathlib.Core.Path.{refl, _∙_}
 use native.Mathlib.Omega.{arith}
 use Rattle.session.specs.FoldLaws.{sessionOf, played-more, last-open, last-empty, last-line}
-use borrow.Author.Tests.{le-ltb, lt-ltb}
 use borrow.Author.Needs.{needs}
 use Rattle.session.proofs.fold.play_last.Statement.{statement}
 use Rattle.session.proofs.fold.play_last.Tie as tie

@@ -3,7 +3,6 @@ use native.Mathlib.Omega.{arith}
 use Rattle.requests.specs.Effects.{memoryOf}
 use Rattle.manager.specs.Calls.{roundNumberOf, afterRound}
 use Rattle.session.specs.RoundLaws.{round-shows, round-refused, round-accepted}
-use borrow.Author.Tests.{le-ltb, lt-ltb}
 use borrow.Author.Needs.{needs}
 use Rattle.session.proofs.play.play_round.Statement.{statement}
 use Rattle.session.proofs.play.play_round.Tie as tie
