@@ -9,7 +9,7 @@ ghost use Rattle.session.specs.Fold.{playedAll};
 ghost use Rattle.session.specs.PlanText.{planText, imageLength};
 
 pub mod fold;
-pub mod play;
+mod play;
 
 use crate::fold::play_lines;
 use manager::Manager;
