@@ -1,71 +1,31 @@
--- The lookup's walk by records: what it knows after each, and that in the end it has found what `find` says.
-use Prim.Native.Nat.{ℕ, zero, suc, _+_, _-_, _≤_}
-use mathlib.Core.Bool.{Bool, true, false}
+-- The lookup, record by record: what its code has found after each. That in the end it is what `find` says, `LookupLaws` shows.
+use Prim.Native.Nat.{ℕ, zero, suc, _-_}
+use mathlib.Core.Bool.{true, false}
 use mathlib.Core.List.{List}
-use mathlib.Core.Path.{_≡_, refl, sym, _∙_}
-use native.Mathlib.Nat.{zero-add}
-use native.Mathlib.Numerals.{add-one}
-use native.Mathlib.Omega.{arith}
 use lib.Dec.{ltb}
-use lib.ListN.{length, take}
-use lib.Seq.{getD-take}
-use Rattle.arith.specs.Cases.{pick, by-bool}
-use Rattle.plan.specs.Records.{noSubArea}
+use Rattle.arith.specs.Cases.{pick}
 use Rattle.plan.specs.Questions.{subAreaOf, isOf, sizeOf}
 use Rattle.plan.specs.declared.records.SubAreaRecord.{SubAreaRecord}
-use Rattle.segment.specs.Mapping.{find}
 use Rattle.segment.specs.declared.Found.{Found}
 use Rattle.segment.specs.declared.Found.the-variants.{Outside, At}
 use Rattle.segment.specs.declared.Seek.{Seek}
 
-abbrev pub begun : ℕ → Seek
-begun x = record { found = false; «sub_area» = 0; left = x }
+-- the byte is still x bytes of the area away
+abbrev pub away : ℕ → Seek
+away x = record { found = false; «sub_area» = 0; left = x }
 
--- record i is met
+-- record i, which is s, is met by a lookup in area a
 unfoldable pub met : Seek → SubAreaRecord → ℕ → ℕ → Seek
 met k s i a =
     pick (k .found) k
     (pick (isOf a s)
-    (pick (ltb (k .left) (sizeOf s)) (record { found = true; «sub_area» = i; left = k .left }) (begun (k .left - sizeOf s)))
+    (pick (ltb (k .left) (sizeOf s)) (record { found = true; «sub_area» = i; left = k .left }) (away (k .left - sizeOf s)))
     k)
 
 unfoldable pub outcomeOf : Seek → Found
 outcomeOf k = pick (k .found) (At (k .«sub_area») (k .left)) Outside
 
--- the lookup after i records
+-- the lookup of the byte at offset x of area a, after i records
 unfoldable pub seekTo : List SubAreaRecord → ℕ → ℕ → ℕ → Seek
-seekTo l a x zero = begun x
+seekTo l a x zero = away x
 seekTo l a x (suc i) = met (seekTo l a x i) (subAreaOf l i) i a
-
--- what the lookup finds from here on: record i is the next, and k are left
-abbrev resumed : ℕ → List SubAreaRecord → ℕ → ℕ → Seek → Found
-resumed k l i a s = pick (s .found) (At (s .«sub_area») (s .left)) (find k l i a (s .left))
-
-resumed-met : (k : ℕ) (l : List SubAreaRecord) (i a : ℕ) (s : Seek) → resumed (suc k) l i a s ≡ resumed k l (i + 1) a (met s (subAreaOf l i) i a)
-unfolding find met
-resumed-met k l i a s =
-    by-bool (s .found) (λ e. simp e) λ e.
-    by-bool (isOf a (subAreaOf l i))
-    (λ f. by-bool (ltb (s .left) (sizeOf (subAreaOf l i))) (λ g. simp (e, f, g)) (λ g. simp (e, f, g)))
-    (λ f. simp (e, f))
-
-seek-resumed : (k i n : ℕ) (l : List SubAreaRecord) (a x : ℕ) → i + k ≡ n → resumed k l i a (seekTo l a x i) ≡ outcomeOf (seekTo l a x n)
-unfolding find outcomeOf seekTo
-seek-resumed zero i n l a x h = let e : n ≡ i = omega arith in rw e
-seek-resumed (suc k) i n l a x h = resumed-met k l i a (seekTo l a x i) ∙ rw add-one (seek-resumed k (suc i) n l a x (omega arith))
-
--- after all records the lookup has found what `find` says
-pub seek-finds : (l : List SubAreaRecord) (a x : ℕ) → outcomeOf (seekTo l a x (length l)) ≡ find (length l) l 0 a x
-unfolding seekTo
-seek-finds l a x = sym (seek-resumed (length l) 0 (length l) l a x (zero-add (length l)))
-
--- the records behind the first n do not matter to a lookup in the first n
-pub find-front : (k i n : ℕ) (l : List SubAreaRecord) (a x : ℕ) → i + k ≤ n → find k (take n l) i a x ≡ find k l i a x
-unfolding find
-find-front zero i n l a x h = refl
-find-front (suc k) i n l a x h =
-    let here : subAreaOf (take n l) i ≡ subAreaOf l i = getD-take n l i noSubArea (omega arith) in
-    let y = x - sizeOf (subAreaOf l i) in
-    let past : find k (take n l) (i + 1) a y ≡ find k l (i + 1) a y = find-front k (i + 1) n l a y (omega arith) in
-    let skipped : find k (take n l) (i + 1) a x ≡ find k l (i + 1) a x = find-front k (i + 1) n l a x (omega arith) in
-    rw (here, past, skipped)

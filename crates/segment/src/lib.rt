@@ -21,10 +21,10 @@ pub enum Found {
 }
 
 // The lookup on its way: the byte is found, at offset `left` of a record, or is still `left` bytes of the area away.
-pub struct Seek {
-    pub found: bool,
-    pub sub_area: usize,
-    pub left: u64,
+struct Seek {
+    found: bool,
+    sub_area: usize,
+    left: u64,
 }
 
 // A part of a job for one driver request: in one sub-area, with the retries that it may take.
@@ -36,7 +36,7 @@ pub struct Segment {
 }
 
 impl Seek {
-    // The lookup meets record i.
+    // The lookup meets record i. Once the byte is found, nothing changes.
     fn meet(self, sub_area: SubAreaRecord, i: usize, area: usize) -> Seek
         ensures { λ r. ⌜ r ≡ met self «sub_area» i area ⌝ }
     {
@@ -74,7 +74,8 @@ impl Seek {
     }
 }
 
-// The byte at an offset of the area: a walk over the records in plan order.
+// Document 01: "the lookup walks the sub-area records as a lent list in plan order." It goes on to the last record, so that
+// its loop has one way out: a walk over a lent list of structs is proved by hand.
 pub fn lookup(sub_areas: &[SubAreaRecord], area: usize, offset: u64) -> Found
     ensures { λ r. ⌜ r ≡ find (length (now («sub_areas» .entry))) (now («sub_areas» .entry)) 0 area offset ⌝ }
 {
@@ -91,7 +92,7 @@ pub fn lookup(sub_areas: &[SubAreaRecord], area: usize, offset: u64) -> Found
     seek.outcome()
 }
 
-// The lookup in the records in use, which it lends. Whoever has the records by value calls this.
+// The lookup for callers that hold the records by value: it lends those in use.
 fn find_byte(sub_areas: [SubAreaRecord; 32], count: usize, area: usize, offset: u64) -> Found
     requires { ⌜ count ≤ 32 ⌝ }
     ensures { λ r. ⌜ r ≡ find count «sub_areas» 0 area offset ⌝ }
