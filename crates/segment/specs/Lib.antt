@@ -1,4 +1,5 @@
 pub mod Mapping
+pub mod Lookup
 pub mod Segments
 pub mod Bytes
 pub mod Borders
@@ -9,3 +10,4 @@ pub mod SegmentLaws
 pub mod BytesLaws
 pub mod SpanLaws
 pub mod LookupLaws
+pub mod Walks

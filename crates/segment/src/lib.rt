@@ -1,8 +1,10 @@
 // Segmentation: where a job's bytes lie, and how a job is cut into driver requests.
 ghost use mathlib.Core.Path.{_≡_};
 ghost use Prim.Native.Nat.{_+_, _-_, _≤_, _<_, min};
+ghost use lib.ListN.{length};
 ghost use Rattle.plan.specs.Questions.{sizeOf};
 ghost use Rattle.segment.specs.Mapping.{find, mapped};
+ghost use Rattle.segment.specs.Lookup.{met, outcomeOf};
 ghost use Rattle.segment.specs.Segments.{isLock, unitOf, retriesOf, burstOrUnit, segmentLength, segmentIn, noSegment, segmentOf, segmentAt};
 use memory::JobType;
 use memory::MemAddress;
@@ -18,6 +20,13 @@ pub enum Found {
     At { sub_area: usize, offset: u64 },
 }
 
+// The lookup on its way: the byte is found, at offset `left` of a record, or is still `left` bytes of the area away.
+struct Seek {
+    found: bool,
+    sub_area: usize,
+    left: u64,
+}
+
 // A part of a job for one driver request: in one sub-area, with the retries that it may take.
 pub struct Segment {
     pub device: u8,
@@ -26,30 +35,69 @@ pub struct Segment {
     pub retries: u8,
 }
 
-// The byte at an offset of the area: a walk over the records in plan order.
-pub fn lookup(sub_areas: [SubAreaRecord; 32], count: usize, area: usize, offset: u64) -> Found
+impl Seek {
+    // The lookup meets record i. Once the byte is found, nothing changes.
+    fn meet(self, sub_area: SubAreaRecord, i: usize, area: usize) -> Seek
+        ensures { λ r. ⌜ r ≡ met self «sub_area» i area ⌝ }
+    {
+        if self.found {
+            return self;
+        }
+        if sub_area.area as usize != area {
+            return self;
+        }
+        let size = sub_area.size();
+        if self.left < size {
+            return Seek {
+                found: true,
+                sub_area: i,
+                left: self.left,
+            };
+        }
+        Seek {
+            found: false,
+            sub_area: 0,
+            left: self.left - size,
+        }
+    }
+
+    fn outcome(self) -> Found
+        ensures { λ r. ⌜ r ≡ outcomeOf self ⌝ }
+    {
+        if self.found {
+            return Found::At {
+                sub_area: self.sub_area,
+                offset: self.left,
+            };
+        }
+        Found::Outside
+    }
+}
+
+// Document 01: "the lookup walks the sub-area records as a lent list in plan order." It goes on to the last record, so that
+// its loop has one way out: a walk over a lent list of structs is proved by hand.
+pub fn lookup(sub_areas: &[SubAreaRecord], area: usize, offset: u64) -> Found
+    ensures { λ r. ⌜ r ≡ find (length (now («sub_areas» .entry))) (now («sub_areas» .entry)) 0 area offset ⌝ }
+{
+    let mut seek = Seek {
+        found: false,
+        sub_area: 0,
+        left: offset,
+    };
+    let mut i: usize = 0;
+    while i < sub_areas.len() {
+        seek = seek.meet(sub_areas[i], i, area);
+        i += 1;
+    }
+    seek.outcome()
+}
+
+// The lookup for callers that hold the records by value: it lends those in use.
+fn find_byte(sub_areas: [SubAreaRecord; 32], count: usize, area: usize, offset: u64) -> Found
     requires { ⌜ count ≤ 32 ⌝ }
     ensures { λ r. ⌜ r ≡ find count «sub_areas» 0 area offset ⌝ }
 {
-    let mut left = offset;
-    let mut i = 0;
-    while i < count {
-        let sub_area = sub_areas[i];
-        let size = sub_area.size();
-        if sub_area.area as usize == area {
-            if left < size {
-                return Found::At {
-                    sub_area: i,
-                    offset: left,
-                };
-            }
-            left -= size;
-            i += 1;
-        } else {
-            i += 1;
-        }
-    }
-    Found::Outside
+    lookup(&sub_areas[..count], area, offset)
 }
 
 // The mapping: where the byte at a logical address lies. The address may lie behind those that a call can name.
@@ -63,7 +111,7 @@ pub fn map_address(plan: Plan, area: usize, address: u64) -> Found
         return Found::Outside;
     }
     let sub_areas = plan.sub_areas;
-    lookup(sub_areas, plan.sub_area_count, area, address - start)
+    find_byte(sub_areas, plan.sub_area_count, area, address - start)
 }
 
 fn least(a: u64, b: u64) -> u64

@@ -4,7 +4,7 @@ use Rattle.segment.proofs.map_address.Statement.{statement}
 use Rattle.segment.proofs.map_address.Tie as tie
 use Rattle.segment.proofs.map_address.Reads as reads
 use Rattle.segment.proofs.map_address.Lts as lts
-use Rattle.segment.proofs.lookup.Reads as lookup-reads
+use Rattle.segment.proofs.find_byte.Reads as find-byte-reads
 
 -- src/lib.rt:60:18
 mul-record : tie.Need-mul-record
@@ -24,15 +24,15 @@ unfolding Rattle.segment.specs.Mapping.mapped
 returns c = simp (lt-ltb _ _ (c .if1 .taken))
 
 -- src/lib.rt:66:5
-lookup-requires : tie.Need-lookup-requires
-lookup-requires c κs = search needs
+find-byte-requires : tie.Need-find-byte-requires
+find-byte-requires c κs = search needs
 
 -- src/lib.rt:56:1
 returns-2 : tie.Need-returns-2
 unfolding Rattle.segment.specs.Mapping.mapped
-returns-2 c = simp (← (c .lookup .ensures), le-ltb _ _ (c .before .before .if1 .left))
+returns-2 c = simp (← (c .«find-byte» .ensures), le-ltb _ _ (c .before .before .if1 .left))
 
 pub map-address-spec : {M : Type 1} → statement M
 map-address-spec =
     tie.close
-    (tie.spec mul-record element-copy-out-record cast-start returns lookup-requires returns-2)
+    (tie.spec mul-record element-copy-out-record cast-start returns find-byte-requires returns-2)
