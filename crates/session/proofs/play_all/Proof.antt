@@ -1,7 +1,7 @@
 use mathlib.Core.Path.{ap, _∙_}
 use lib.ListN.{length}
 use native.Mathlib.Omega.{arith}
-use Rattle.rounds.specs.Effects.{memoryOf}
+use Rattle.requests.specs.Effects.{memoryOf}
 use Rattle.manager.specs.Load.{loadedManager}
 use Rattle.session.specs.Fold.{Session}
 use Rattle.session.specs.FoldLaws.{all-full, all-refused, all-lines, session-parts}
