@@ -5,12 +5,13 @@ use mathlib.Core.Path.{_≡_, refl, sym, _∙_}
 use native.Mathlib.Nat.{zero-add}
 use native.Mathlib.Numerals.{add-one}
 use native.Mathlib.Omega.{arith}
+use borrow.Author.Tests.{lt-ltb, le-ltb}
 use lib.Dec.{ltb}
 use lib.ListN.{length, take}
 use lib.Seq.{getD-take}
 use Rattle.arith.specs.Cases.{pick, by-bool}
 use Rattle.memory.specs.declared.Task.{Task}
-use Rattle.plan.specs.Questions.{subAreaOf, isOf, sizeOf}
+use Rattle.plan.specs.Questions.{areaOf, subAreaOf, isOf, sizeOf}
 use Rattle.plan.specs.Records.{noSubArea}
 use Rattle.plan.specs.declared.records.Plan.{Plan}
 use Rattle.plan.specs.declared.records.SubAreaRecord.{SubAreaRecord}
@@ -56,6 +57,16 @@ find-front (suc k) i n l a x h =
     rw (here, passed, skipped)
 
 -- what the mapping gave, by its cases
+-- the mapping by its cases: before the area's start, or by the lookup
+pub before-start : (p : Plan) (a x : ℕ) → x < areaOf (p .areas) a .start .0 → Outside ≡ mapped p a (record { 0 = x })
+unfolding mapped
+before-start p a x h = rw (lt-ltb _ _ h)
+
+pub looked-up : (p : Plan) (a x : ℕ) (f : Found) → areaOf (p .areas) a .start .0 ≤ x →
+    f ≡ find (p .«sub_area_count») (p .«sub_areas») 0 a (x - areaOf (p .areas) a .start .0) → f ≡ mapped p a (record { 0 = x })
+unfolding mapped
+looked-up p a x f h e = rw (le-ltb _ _ h) e
+
 pub found-within : (p : Plan) (a x : ℕ) (f : Found) → f ≡ mapped p a (record { 0 = x }) → (i y : ℕ) → f ≡ At i y →
     (i < p .«sub_area_count») × (y < sizeOf (subAreaOf (p .«sub_areas») i))
 found-within p a x f e i y here = let place = mapped-place p a x i y (sym e ∙ here) in (place .known, place .inside)

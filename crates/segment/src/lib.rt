@@ -241,14 +241,20 @@ pub fn segment_at(plan: Plan, area: usize, task: Task, processed: u32) -> Segmen
     ensures { λ r. ⌜ r ≡ segmentAt plan area task processed ⌝ }
 {
     let address = (task.address.0 as u64) + (processed as u64);
-    let found = map_address(plan, area, address);
+    // as in map_address, which would be handed one more copy of the plan
+    let place = plan.areas[area];
+    let start = place.start.0 as u64;
+    if address < start {
+        return no_segment();
+    }
+    let found = find_byte(plan.sub_areas, plan.sub_area_count, area, address - start);
     match found {
         Found::Outside => no_segment(),
         Found::At { sub_area, offset } => {
             let kind = task.kind;
             let left = minus(task.length as u64, processed as u64);
-            let records = plan.sub_areas;
-            segment_in(kind, records[sub_area], offset, left)
+            let record = plan.sub_areas[sub_area];
+            segment_in(kind, record, offset, left)
         }
     }
 }
