@@ -10,4 +10,5 @@ pub mod SegmentLaws
 pub mod BytesLaws
 pub mod SpanLaws
 pub mod LookupLaws
+pub mod Found
 pub mod Walks

@@ -19,8 +19,10 @@ find (suc k) l i a x =
     (pick (ltb x (sizeOf (subAreaOf l i))) (At i x) (find k l (i + 1) a (x - sizeOf (subAreaOf l i))))
     (find k l (i + 1) a x)
 
+-- the byte at logical address x of area a, which starts at `start`, by the first n records
+abbrev pub located : List SubAreaRecord → ℕ → ℕ → ℕ → ℕ → Found
+located l n start a x = pick (ltb x start) Outside (find n l 0 a (x - start))
+
 -- "A logical address never stands for a physical one; only the mapping turns the first into the second."
 unfoldable pub mapped : Plan → ℕ → LogicalAddress → Found
-mapped p a address =
-    pick (ltb (address .0) (areaOf (p .areas) a .start .0)) Outside
-    (find (p .«sub_area_count») (p .«sub_areas») 0 a (address .0 - areaOf (p .areas) a .start .0))
+mapped p a address = located (p .«sub_areas») (p .«sub_area_count») (areaOf (p .areas) a .start .0) a (address .0)

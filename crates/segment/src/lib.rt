@@ -3,10 +3,12 @@ ghost use mathlib.Core.Path.{_≡_};
 ghost use Prim.Native.Nat.{_+_, _-_, _≤_, _<_, min};
 ghost use lib.ListN.{length};
 ghost use Rattle.plan.specs.Questions.{sizeOf};
-ghost use Rattle.segment.specs.Mapping.{find, mapped};
+ghost use Rattle.segment.specs.Mapping.{find, located, mapped};
 ghost use Rattle.segment.specs.Lookup.{met, outcomeOf};
-ghost use Rattle.segment.specs.Segments.{isLock, unitOf, retriesOf, burstOrUnit, segmentLength, segmentIn, noSegment, segmentOf, segmentAt};
+ghost use Rattle.segment.specs.Segments.{isLock, unitOf, retriesOf, burstOrUnit, segmentLength, segmentIn, noSegment, segmentAt};
+ghost use Rattle.segment.specs.Found.{indexOf, Inside, segmentIf, segmentFrom};
 use memory::JobType;
+use memory::LogicalAddress;
 use memory::MemAddress;
 use memory::Task;
 use plan::number::is_multiple;
@@ -100,18 +102,33 @@ fn find_byte(sub_areas: [SubAreaRecord; 32], count: usize, area: usize, offset: 
     lookup(&sub_areas[..count], area, offset)
 }
 
-// The mapping: where the byte at a logical address lies. The address may lie behind those that a call can name.
+// The mapping in an area that starts there: where the byte at a logical address lies. The address may lie behind those that a
+// call can name.
+pub fn locate(
+    sub_areas: [SubAreaRecord; 32],
+    count: usize,
+    start: LogicalAddress,
+    area: usize,
+    address: u64,
+) -> Found
+    requires { ⌜ count ≤ 32 ⌝ }
+    ensures { λ r. ⌜ r ≡ located «sub_areas» count (start .0) area address ⌝ }
+{
+    let start = start.0 as u64;
+    if address < start {
+        return Found::Outside;
+    }
+    find_byte(sub_areas, count, area, address - start)
+}
+
+// The same for callers that hold the plan.
 pub fn map_address(plan: Plan, area: usize, address: u64) -> Found
     requires { ⌜ (plan .«sub_area_count» ≤ 32) × (area < 8) ⌝ }
     ensures { λ r. ⌜ r ≡ mapped plan area (record { 0 = address }) ⌝ }
 {
     let record = plan.areas[area];
-    let start = record.start.0 as u64;
-    if address < start {
-        return Found::Outside;
-    }
-    let sub_areas = plan.sub_areas;
-    find_byte(sub_areas, plan.sub_area_count, area, address - start)
+    let start = record.start;
+    locate(plan.sub_areas, plan.sub_area_count, start, area, address)
 }
 
 fn least(a: u64, b: u64) -> u64
@@ -215,7 +232,7 @@ fn segment_in(kind: JobType, sub_area: SubAreaRecord, offset: u64, left: u64) ->
     }
 }
 
-fn no_segment() -> Segment
+pub fn no_segment() -> Segment
     ensures { λ r. ⌜ r ≡ noSegment ⌝ }
 {
     Segment {
@@ -235,26 +252,68 @@ fn minus(a: u64, b: u64) -> u64
     a - b
 }
 
-// The segment of an area's job that is due once `processed` bytes are done.
+// The record that a lookup found, which is among the first `count`; 0 where it found none.
+pub fn index_of(found: Found) -> usize
+    ensures { λ r. ⌜ r ≡ indexOf found ⌝ }
+{
+    match found {
+        Found::Outside => 0,
+        Found::At {
+            sub_area,
+            offset: _,
+        } => sub_area,
+    }
+}
+
+// The segment at the byte that a lookup found, in the record it found, once `processed` bytes of the job are done.
+pub fn segment_found(task: Task, processed: u32, sub_area: SubAreaRecord, found: Found) -> Segment
+    requires { ⌜ Inside «sub_area» found ⌝ }
+    ensures { λ r. ⌜ r ≡ segmentIf (task .kind) «sub_area» (task .length - processed) found ⌝ }
+{
+    match found {
+        Found::Outside => no_segment(),
+        Found::At {
+            sub_area: _,
+            offset,
+        } => {
+            let kind = task.kind;
+            let left = minus(task.length as u64, processed as u64);
+            segment_in(kind, sub_area, offset, left)
+        }
+    }
+}
+
+// The segment of a job of an area that starts there, which is due once `processed` bytes are done.
+pub fn segment_from(
+    sub_areas: [SubAreaRecord; 32],
+    count: usize,
+    start: LogicalAddress,
+    area: usize,
+    task: Task,
+    processed: u32,
+) -> Segment
+    requires { ⌜ count ≤ 32 ⌝ }
+    ensures { λ r. ⌜ r ≡ segmentFrom «sub_areas» count (start .0) area task processed ⌝ }
+{
+    let address = (task.address.0 as u64) + (processed as u64);
+    let found = locate(sub_areas, count, start, area, address);
+    let i = index_of(found);
+    segment_found(task, processed, sub_areas[i], found)
+}
+
+// The same for callers that hold the plan.
 pub fn segment_at(plan: Plan, area: usize, task: Task, processed: u32) -> Segment
     requires { ⌜ (plan .«sub_area_count» ≤ 32) × (area < 8) ⌝ }
     ensures { λ r. ⌜ r ≡ segmentAt plan area task processed ⌝ }
 {
-    let address = (task.address.0 as u64) + (processed as u64);
-    // as in map_address, which would be handed one more copy of the plan
     let place = plan.areas[area];
-    let start = place.start.0 as u64;
-    if address < start {
-        return no_segment();
-    }
-    let found = find_byte(plan.sub_areas, plan.sub_area_count, area, address - start);
-    match found {
-        Found::Outside => no_segment(),
-        Found::At { sub_area, offset } => {
-            let kind = task.kind;
-            let left = minus(task.length as u64, processed as u64);
-            let record = plan.sub_areas[sub_area];
-            segment_in(kind, record, offset, left)
-        }
-    }
+    let start = place.start;
+    segment_from(
+        plan.sub_areas,
+        plan.sub_area_count,
+        start,
+        area,
+        task,
+        processed,
+    )
 }

@@ -1,38 +1,27 @@
-use borrow.Author.Tests.{le-ltb, lt-ltb}
+use mathlib.Core.Path.{_∙_}
+use Rattle.segment.specs.Found.{located-mapped}
 use borrow.Author.Needs.{needs}
 use Rattle.segment.proofs.map_address.Statement.{statement}
 use Rattle.segment.proofs.map_address.Tie as tie
 use Rattle.segment.proofs.map_address.Reads as reads
 use Rattle.segment.proofs.map_address.Lts as lts
-use Rattle.segment.proofs.find_byte.Reads as find-byte-reads
+use Rattle.segment.proofs.locate.Reads as locate-reads
 
--- src/lib.rt:60:18
+-- src/lib.rt:129:18
 mul-record : tie.Need-mul-record
 mul-record c = search needs
 
--- src/lib.rt:60:18
+-- src/lib.rt:129:18
 element-copy-out-record : tie.Need-element-copy-out-record
 element-copy-out-record c = search needs
 
--- src/lib.rt:61:17
-cast-start : tie.Need-cast-start
-cast-start c = search needs
+-- src/lib.rt:131:5
+locate-requires : tie.Need-locate-requires
+locate-requires c κs = search needs
 
--- src/lib.rt:63:9
+-- src/lib.rt:125:1
 returns : tie.Need-returns
-unfolding Rattle.segment.specs.Mapping.mapped
-returns c = simp (lt-ltb _ _ (c .if1 .taken))
-
--- src/lib.rt:66:5
-find-byte-requires : tie.Need-find-byte-requires
-find-byte-requires c κs = search needs
-
--- src/lib.rt:56:1
-returns-2 : tie.Need-returns-2
-unfolding Rattle.segment.specs.Mapping.mapped
-returns-2 c = simp (← (c .«find-byte» .ensures), le-ltb _ _ (c .before .before .if1 .left))
+returns c = c .locate .ensures ∙ located-mapped (c .before .before .before .before .args .t1) (c .before .before .before .before .args .area) (c .before .before .before .before .args .address)
 
 pub map-address-spec : {M : Type 1} → statement M
-map-address-spec =
-    tie.close
-    (tie.spec mul-record element-copy-out-record cast-start returns find-byte-requires returns-2)
+map-address-spec = tie.close (tie.spec mul-record element-copy-out-record locate-requires returns)

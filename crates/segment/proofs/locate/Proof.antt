@@ -1,0 +1,26 @@
+use borrow.Author.Tests.{le-ltb, lt-ltb}
+use borrow.Author.Needs.{needs}
+use Rattle.segment.proofs.locate.Statement.{statement}
+use Rattle.segment.proofs.locate.Tie as tie
+use Rattle.segment.proofs.locate.Reads as reads
+use Rattle.segment.proofs.locate.Lts as lts
+use Rattle.segment.proofs.find_byte.Reads as find-byte-reads
+
+-- src/lib.rt:117:17
+cast-start : tie.Need-cast-start
+cast-start c = search needs
+
+-- src/lib.rt:119:9
+returns : tie.Need-returns
+returns c = simp (lt-ltb _ _ (c .if1 .taken))
+
+-- src/lib.rt:121:5
+find-byte-requires : tie.Need-find-byte-requires
+find-byte-requires c κs = search needs
+
+-- src/lib.rt:107:1
+returns-2 : tie.Need-returns-2
+returns-2 c = simp (← (c .find-byte .ensures), le-ltb _ _ (c .before .if1 .left))
+
+pub locate-spec : {M : Type 1} → statement M
+locate-spec = tie.close (tie.spec cast-start returns find-byte-requires returns-2)
