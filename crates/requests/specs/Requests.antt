@@ -92,7 +92,7 @@ requestMemory p a j x m =
     memoryAfter x (j .task .kind) (s .start .0) (windowPlace p a j) (s .length) m
 
 -- the rules say the same
-same-map : {A : Type 0} (f : ℕ → A) (a : ℕ) → f ≡ upd f a (f a)
+pub same-map : {A : Type 0} (f : ℕ → A) (a : ℕ) → f ≡ upd f a (f a)
 same-map f a = fun-ext (λ b. upd-case (λ v. f b ≡ v) f a b (f a) (λ e. ap f (sym e)) (λ _. refl))
 
 pub taken-core : (p : Layout) (d a polls : ℕ) (v : Verdict) (c : Core) →
@@ -119,6 +119,7 @@ lent-asked NoJob w n s q e f = omega arith
 -- what the soundness test and the lent lengths say of a request that runs
 pub record Fits (p : Plan) (d a polls : ℕ) (j : Job) (image store : List ℕ) : Type 0 where
   pub known : a < p .«area_count»
+  pub pending : isPending j ≡ true
   pub few : polls < deviceOf (p .devices) d .«poll_limit»
   pub device : due (layoutOf p) a j .device ≡ d
   pub image-fits : due (layoutOf p) a j .start .0 + due (layoutOf p) a j .length ≤ length image
@@ -134,6 +135,7 @@ request-fits p d a polls j image store e f g =
     let window-end : areaOf (p .areas) a .window .start + areaOf (p .areas) a .window .length ≤ length store = leb-true _ _ (every-elim _ _ g a (h .0)) in
     record {
       known = h .0;
+      pending = h .1 .0 .0;
       few = h .1 .0 .1 .1;
       device = h .1 .1 .0;
       image-fits = omega (arith, h .1 .1 .1 .0, image-is);
