@@ -81,15 +81,29 @@ runnerOf Free = 0
 runnerOf (LockedFor a) = 0
 runnerOf (Runs a polls) = pick (ltb a 8) a 0
 
-pub runner-few : (x : DeviceState) → runnerOf x < 8
-runner-few Free = omega arith
-runner-few (LockedFor a) = omega arith
-runner-few (Runs a polls) = by-ltb a 8 (λ t h. rw t h) (λ t _. rw t (omega arith))
-
 abbrev pub stateFits : ℕ → DeviceRecord → ℕ → AreaRecord → ℕ → Job → Segment → DeviceState → Bool
 stateFits n holder areas place d j s Free = true
 stateFits n holder areas place d j s (LockedFor a) = true
 stateFits n holder areas place d j s (Runs a polls) = requestFits n holder areas place d j s a polls
+
+-- the segment of the request that a device in this state runs, where the job of its area is j
+abbrev pub runningSegment : Plan → Job → DeviceState → Segment
+runningSegment p j Free = noSegment
+runningSegment p j (LockedFor a) = noSegment
+runningSegment p j (Runs a polls) = pick (ltb a 8) (segmentAt p a (j .task) (j .processed)) noSegment
+
+-- found for one device, it decides as the rules' test
+module _ (p : Plan) (few : p .«area_count» ≤ 8) (holders : List DeviceRecord) (holders-are : holders ≡ p .devices) (records : List AreaRecord) (records-are : records ≡ p .areas) (n : ℕ)
+    (n-is : n ≡ lengthSum (p .devices) (p .«device_count»)) (d : ℕ) (areas : List Area) where
+  pub running-decides : (x : DeviceState) (a : ℕ) → a ≡ runnerOf x → (s : Segment) → s ≡ runningSegment p (jobIn areas a) x →
+      stateFits n (deviceOf holders d) (p .«area_count») (areaOf records a) d (jobIn areas a) s x ≡ stateSound p d (jobIn areas) x
+  unfolding requestSound
+  running-decides Free a e s g = refl
+  running-decides (LockedFor b) a e s g = refl
+  running-decides (Runs b polls) a e s g =
+      by-ltb b 8
+      (λ t h. rw (g, n-is, holders-are, records-are, e, t))
+      (λ t h. let z : p .«area_count» ≤ b = omega arith in rw (le-ltb _ _ z))
 
 abbrev pub fitsIn : List DeviceRecord → ℕ → List AreaRecord → ℕ → List Area → List Device → List Segment → ℕ → Bool
 fitsIn holders count records number areas devices dues d =

@@ -70,21 +70,6 @@ isSound p areas devices =
     countsFit (p .«device_count») (p .«area_count») (p .«sub_area_count»)
     && every (λ d. stateSound p d (jobIn areas) (stateIn devices d)) (p .«device_count»)
 
-module _ (p : Plan) (d a polls : ℕ) (j : Job) where
-  pub unknown-area : p .«area_count» ≤ a → false ≡ requestSound p d a polls j
-  unfolding requestSound
-  unknown-area h = rw (le-ltb _ _ h)
-
-  pub request-idle : a < p .«area_count» → jobRuns j polls (deviceOf (p .devices) d .«poll_limit») ≡ false → false ≡ requestSound p d a polls j
-  unfolding requestSound
-  request-idle h e = simp (lt-ltb _ _ h, e)
-
-  pub request-decides : a < p .«area_count» → jobRuns j polls (deviceOf (p .devices) d .«poll_limit») ≡ true → (s : Segment) →
-      s ≡ segmentAt p a (j .task) (j .processed) → (n : ℕ) → n ≡ lengthSum (p .devices) (p .«device_count») →
-      segmentFits n (areaOf (p .areas) a .window .length) d j s ≡ requestSound p d a polls j
-  unfolding requestSound
-  request-decides h e s q n f = simp (lt-ltb _ _ h, e, q, f)
-
 module _ (p : Plan) (areas : List Area) (devices : List Device) where
   pub other-counts : countsFit (p .«device_count») (p .«area_count») (p .«sub_area_count») ≡ false → false ≡ isSound p areas devices
   unfolding isSound

@@ -170,8 +170,8 @@ fn store_reaches(plan: Plan, store: &[u8]) -> bool
     true
 }
 
-// 9, 18, 19, with the due segments of the pending jobs.
-fn round_admission(
+// 9, 18, 19, with the due segments of the pending jobs, and counts that fit.
+fn round_answer(
     plan: Plan,
     areas: [Area; 8],
     devices: [Device; 4],
@@ -182,12 +182,12 @@ fn round_admission(
     requires { ⌜ (countsFit (plan .«device_count») (plan .«area_count») (plan .«sub_area_count») ≡ true) × Due plan dues (jobIn areas) ⌝ }
     ensures { λ r. ⌜ admissionNumber r ≡ pick (isSound plan areas devices) (roundNumber plan (now (image .entry)) (now (store .entry))) 9 ⌝ }
 {
-    let holders = plan.devices;
-    let records = plan.areas;
+    let device_records = plan.devices;
+    let area_records = plan.areas;
     if !states_fit(
-        holders,
+        device_records,
         plan.device_count,
-        records,
+        area_records,
         plan.area_count,
         areas,
         devices,
@@ -204,32 +204,33 @@ fn round_admission(
     Admission::Accepted
 }
 
-// The answer to a round's questions, with the due segments of the pending jobs, which the round goes on with.
-pub struct Opened {
+// 9, 18, 19: the answer to a round, with the due segments of the pending jobs, which an accepted round goes on with. Of a state
+// that is not sound they are left open: no round follows.
+pub struct RoundAdmission {
     pub answer: Admission,
     pub dues: [Segment; 8],
 }
 
-pub fn open_round(
+pub fn round_admission(
     plan: Plan,
     areas: [Area; 8],
     devices: [Device; 4],
     image: &[u8],
     store: &[u8],
-) -> Opened
+) -> RoundAdmission
     ensures { λ r. ⌜ admissionNumber (r .answer) ≡ pick (isSound plan areas devices) (roundNumber plan (now (image .entry)) (now (store .entry))) 9 ⌝ }
     ensures { λ r. ⌜ DueIfSound plan areas devices (r .dues) ⌝ }
 {
     if !counts_fit(plan.device_count, plan.area_count, plan.sub_area_count) {
         let dues = [no_segment(); 8];
-        return Opened {
+        return RoundAdmission {
             answer: Admission::Refused(Refusal::Unsound),
             dues,
         };
     }
     let sub_areas = plan.sub_areas;
-    let records = plan.areas;
-    let dues = due_segments(sub_areas, plan.sub_area_count, records, areas);
-    let answer = round_admission(plan, areas, devices, dues, image, store);
-    Opened { answer, dues }
+    let area_records = plan.areas;
+    let dues = due_segments(sub_areas, plan.sub_area_count, area_records, areas);
+    let answer = round_answer(plan, areas, devices, dues, image, store);
+    RoundAdmission { answer, dues }
 }

@@ -2,21 +2,25 @@
 ghost use mathlib.Core.Path.{_≡_};
 ghost use Prim.Native.Nat.{_+_, _≤_, _<_};
 ghost use Rattle.arith.specs.Bounded.{every};
-ghost use Rattle.machine.specs.Sound.{jobRuns, segmentFits, requestSound, stateSound, jobIn, stateIn, isSound};
+ghost use Rattle.machine.specs.Sound.{jobRuns, segmentFits, stateSound, jobIn, stateIn, isSound};
+ghost use Rattle.machine.specs.Dues.{runnerOf, stateFits, runningSegment};
 use admission::uses_window;
 use jobs::is_pending;
 use plan::checks::counts_fit;
 use plan::questions::device_sum;
+use plan::records::AreaRecord;
+use plan::records::DeviceRecord;
 use plan::records::Plan;
 use segment::Segment;
 use segment::is_lock;
+use segment::no_segment;
 use segment::segment_at;
 use state::Area;
 use state::Device;
 use state::DeviceState;
 use state::Job;
 
-pub fn job_runs(job: Job, polls: u16, limit: u16) -> bool
+fn job_runs(job: Job, polls: u16, limit: u16) -> bool
     ensures { λ r. ⌜ r ≡ jobRuns job polls limit ⌝ }
 {
     if !is_pending(job) {
@@ -31,7 +35,7 @@ pub fn job_runs(job: Job, polls: u16, limit: u16) -> bool
 }
 
 // Does the request lie on the device, inside the image of `sum` bytes, and in what is left of the job and of its window?
-pub fn segment_fits(sum: u64, window: u32, device: usize, job: Job, segment: Segment) -> bool
+fn segment_fits(sum: u64, window: u32, device: usize, job: Job, segment: Segment) -> bool
     requires { ⌜ sum ≤ 17179869180 ⌝ }
     ensures { λ r. ⌜ r ≡ segmentFits sum window device job segment ⌝ }
 {
@@ -56,40 +60,67 @@ pub fn segment_fits(sum: u64, window: u32, device: usize, job: Job, segment: Seg
     upto <= window as u64
 }
 
-fn request_sound(plan: Plan, device: usize, area: usize, polls: u16, areas: [Area; 8]) -> bool
-    requires { ⌜ (plan .«device_count» ≤ 4) × (plan .«area_count» ≤ 8) × (plan .«sub_area_count» ≤ 32) × (device < 4) ⌝ }
-    ensures { λ r. ⌜ r ≡ requestSound plan device area polls (jobIn areas area) ⌝ }
+// The area whose request a device runs; 0 where it runs none of an area that a manager has.
+pub fn runner(state: DeviceState) -> usize
+    ensures { λ r. ⌜ r ≡ runnerOf state ⌝ }
+    ensures { λ r. ⌜ r < 8 ⌝ }
 {
-    if plan.area_count <= area {
-        return false;
+    match state {
+        DeviceState::Free => 0,
+        DeviceState::LockedFor(_) => 0,
+        DeviceState::Runs { area, polls: _ } => {
+            if 8 <= area {
+                return 0;
+            }
+            area as usize
+        }
     }
-    let entry = areas[area];
-    let job = entry.job;
-    let record = plan.devices[device];
-    if !job_runs(job, polls, record.poll_limit) {
-        return false;
-    }
-    let task = job.task;
-    let segment = segment_at(plan, area, task, job.processed);
-    let sum = device_sum(plan.devices, plan.device_count);
-    let place = plan.areas[area];
-    segment_fits(sum, place.window.length, device, job, segment)
 }
 
-fn state_sound(plan: Plan, device: usize, areas: [Area; 8], state: DeviceState) -> bool
-    requires { ⌜ (plan .«device_count» ≤ 4) × (plan .«area_count» ≤ 8) × (plan .«sub_area_count» ≤ 32) × (device < 4) ⌝ }
-    ensures { λ r. ⌜ r ≡ stateSound plan device (jobIn areas) state ⌝ }
+// May the device be in this state, where the job of its request's area is this one, with this segment due?
+pub fn state_fits(
+    sum: u64,
+    device_record: DeviceRecord,
+    area_count: usize,
+    area_record: AreaRecord,
+    device: usize,
+    job: Job,
+    due: Segment,
+    state: DeviceState,
+) -> bool
+    requires { ⌜ sum ≤ 17179869180 ⌝ }
+    ensures { λ r. ⌜ r ≡ stateFits sum «device_record» «area_count» «area_record» device job due state ⌝ }
 {
     match state {
         DeviceState::Free => true,
-        DeviceState::Runs { area, polls } => request_sound(
-            plan,
-            device,
-            area as usize,
-            polls,
-            areas,
-        ),
         DeviceState::LockedFor(_) => true,
+        DeviceState::Runs { area, polls } => {
+            if area_count <= area as usize {
+                return false;
+            }
+            if !job_runs(job, polls, device_record.poll_limit) {
+                return false;
+            }
+            segment_fits(sum, area_record.window.length, device, job, due)
+        }
+    }
+}
+
+// The segment of the request that a device in this state runs, where the job of its area is this one.
+fn running_segment(plan: Plan, job: Job, state: DeviceState) -> Segment
+    requires { ⌜ plan .«sub_area_count» ≤ 32 ⌝ }
+    ensures { λ r. ⌜ r ≡ runningSegment plan job state ⌝ }
+{
+    match state {
+        DeviceState::Free => no_segment(),
+        DeviceState::LockedFor(_) => no_segment(),
+        DeviceState::Runs { area, polls: _ } => {
+            if 8 <= area {
+                return no_segment();
+            }
+            let task = job.task;
+            segment_at(plan, area as usize, task, job.processed)
+        }
     }
 }
 
@@ -97,11 +128,29 @@ fn devices_sound(plan: Plan, areas: [Area; 8], devices: [Device; 4]) -> bool
     requires { ⌜ (plan .«device_count» ≤ 4) × (plan .«area_count» ≤ 8) × (plan .«sub_area_count» ≤ 32) ⌝ }
     ensures { λ r. ⌜ r ≡ every (λ d. stateSound plan d (jobIn areas) (stateIn devices d)) (plan .«device_count») ⌝ }
 {
+    let device_records = plan.devices;
+    let area_records = plan.areas;
+    let sum = device_sum(device_records, plan.device_count);
     let mut d = 0;
     while d < plan.device_count {
         let device = devices[d];
         let state = device.state;
-        if !state_sound(plan, d, areas, state) {
+        let area = runner(state);
+        let entry = areas[area];
+        let job = entry.job;
+        let segment = running_segment(plan, job, state);
+        let device_record = device_records[d];
+        let area_record = area_records[area];
+        if !state_fits(
+            sum,
+            device_record,
+            plan.area_count,
+            area_record,
+            d,
+            job,
+            segment,
+            state,
+        ) {
             return false;
         }
         d += 1;

@@ -21,7 +21,7 @@ use machine::questions::info_admission;
 use machine::questions::job_admission;
 use machine::questions::memory_admission;
 use machine::questions::release_admission;
-use machine::questions::open_round;
+use machine::questions::round_admission;
 use memory::Admission;
 use memory::DeviceAnswer;
 use memory::JobResult;
@@ -430,15 +430,15 @@ impl Manager {
         let plan = self.plan;
         let areas = self.areas;
         let devices = self.devices;
-        let opened = open_round(plan, areas, devices, image, store);
-        let answer = opened.answer;
+        let asked = round_admission(plan, areas, devices, image, store);
+        let answer = asked.answer;
         match answer {
             Admission::Refused(_) => Answered {
                 answer,
                 manager: self,
             },
             Admission::Accepted => {
-                let dues = opened.dues;
+                let dues = asked.dues;
                 let next = run_round(plan, answers, areas, devices, dues, image, store);
                 let areas = next.areas;
                 let devices = next.devices;

@@ -9,7 +9,7 @@ use lib.Dec.{leb}
 use lib.ListN.{length, getD, set}
 use Rattle.arith.specs.Parts.{upd, upd-case}
 use Rattle.machine.specs.Arrays.{view-set, job-set}
-use Rattle.machine.specs.Dues.{Due, runnerOf, runner-few}
+use Rattle.machine.specs.Dues.{Due, runnerOf}
 use Rattle.machine.specs.Sound.{jobIn, stateIn, coreIn, requestSound, stateSound}
 use Rattle.memory.specs.declared.DeviceAnswer.{DeviceAnswer}
 use Rattle.plan.specs.Questions.{areaOf, deviceOf}

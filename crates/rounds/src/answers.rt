@@ -9,7 +9,7 @@ ghost use Rattle.rules.specs.Round.{takeAll};
 ghost use Rattle.rounds.specs.Close.{lentTo};
 ghost use Rattle.rounds.specs.Turns.{Lent, turnArea, turnState, turnDue, turnMemory};
 ghost use Rattle.requests.specs.Effects.{memoryOf};
-use machine::dues::runner;
+use machine::soundness::runner;
 use memory::DeviceAnswer;
 use plan::records::AreaRecord;
 use plan::records::DeviceRecord;
@@ -46,8 +46,8 @@ pub struct Turn {
 fn take_answer(
     sub_areas: [SubAreaRecord; 32],
     count: usize,
-    place: AreaRecord,
-    holder: DeviceRecord,
+    area_record: AreaRecord,
+    device_record: DeviceRecord,
     entry: Area,
     due: Segment,
     state: DeviceState,
@@ -55,12 +55,12 @@ fn take_answer(
     image: &mut [u8],
     store: &mut [u8],
 ) -> Turn
-    requires { ⌜ (count ≤ 32) × Lent place entry due (now image) (now store) state ⌝ }
-    ensures { λ r. ⌜ r .area ≡ turnArea «sub_areas» count place holder entry due answer (memoryOf (now (image .entry)) (now (store .entry))) state ⌝ }
-    ensures { λ r. ⌜ r .due ≡ turnDue «sub_areas» count place entry due answer (memoryOf (now (image .entry)) (now (store .entry))) state ⌝ }
-    ensures { λ r. ⌜ r .device .state ≡ turnState place holder entry due answer (memoryOf (now (image .entry)) (now (store .entry))) state ⌝ }
-    ensures { λ _. ⌜ now (image .exit) ≡ turnMemory place entry due answer (memoryOf (now (image .entry)) (now (store .entry))) state .image ⌝ }
-    ensures { λ _. ⌜ now (store .exit) ≡ turnMemory place entry due answer (memoryOf (now (image .entry)) (now (store .entry))) state .store ⌝ }
+    requires { ⌜ (count ≤ 32) × Lent «area_record» entry due (now image) (now store) state ⌝ }
+    ensures { λ r. ⌜ r .area ≡ turnArea «sub_areas» count «area_record» «device_record» entry due answer (memoryOf (now (image .entry)) (now (store .entry))) state ⌝ }
+    ensures { λ r. ⌜ r .due ≡ turnDue «sub_areas» count «area_record» entry due answer (memoryOf (now (image .entry)) (now (store .entry))) state ⌝ }
+    ensures { λ r. ⌜ r .device .state ≡ turnState «area_record» «device_record» entry due answer (memoryOf (now (image .entry)) (now (store .entry))) state ⌝ }
+    ensures { λ _. ⌜ now (image .exit) ≡ turnMemory «area_record» entry due answer (memoryOf (now (image .entry)) (now (store .entry))) state .image ⌝ }
+    ensures { λ _. ⌜ now (store .exit) ≡ turnMemory «area_record» entry due answer (memoryOf (now (image .entry)) (now (store .entry))) state .store ⌝ }
 {
     match state {
         DeviceState::Free => Turn {
@@ -76,11 +76,11 @@ fn take_answer(
         DeviceState::Runs { area, polls } => {
             let job = entry.job;
             let waits = entry.waits;
-            let start = place.start;
+            let start = area_record.start;
             let next = next_segment(answer, sub_areas, count, start, area as usize, job, due);
             let taken = take_request(
-                place.window.start,
-                holder.poll_limit,
+                area_record.window.start,
+                device_record.poll_limit,
                 area,
                 polls,
                 job,
@@ -118,31 +118,31 @@ pub fn first_half(
     ensures { λ _. ⌜ now (store .exit) ≡ takeAll plan answers (plan .«device_count») (lentTo areas devices (memoryOf (now (image .entry)) (now (store .entry)))) .memory .store ⌝ }
 {
     let sub_areas = plan.sub_areas;
-    let records = plan.areas;
-    let holders = plan.devices;
+    let area_records = plan.areas;
+    let device_records = plan.devices;
     let mut d = 0;
     while d < plan.device_count {
         let device = devices[d];
         let state = device.state;
         // the area that its request is for, or any: without a request it stays as it is
-        let number = runner(state);
+        let area = runner(state);
         let turn = take_answer(
             sub_areas,
             plan.sub_area_count,
-            records[number],
-            holders[d],
-            areas[number],
-            dues[number],
+            area_records[area],
+            device_records[d],
+            areas[area],
+            dues[area],
             state,
             answers[d],
             image,
             store,
         );
-        let area = turn.area;
+        let entry = turn.area;
         let due = turn.due;
         let device = turn.device;
-        areas[number] = area;
-        dues[number] = due;
+        areas[area] = entry;
+        dues[area] = due;
         devices[d] = device;
         d += 1;
     }

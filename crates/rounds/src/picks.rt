@@ -216,11 +216,11 @@ pub fn second_half(
         let state = device.state;
         let best = pick_area(state, records, count, needs, areas, d);
         // without a choice any area will do: it stays as it is
-        let number = chosen(best);
-        let start = start_choice(best, areas[number], device);
-        let area = start.area;
+        let area = chosen(best);
+        let start = start_choice(best, areas[area], device);
+        let entry = start.area;
         let device = start.device;
-        areas[number] = area;
+        areas[area] = entry;
         devices[d] = device;
         d += 1;
     }

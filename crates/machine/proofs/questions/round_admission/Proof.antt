@@ -1,51 +1,50 @@
+use mathlib.Core.Bool.{false≢true}
 use borrow.Author.Tests.{not-true, not-false}
-use mathlib.Core.Path.{sym, _∙_}
-use Rattle.machine.specs.Dues.{fits-decide, counts-few}
-use Rattle.machine.specs.QuestionLaws.{round-unsound, round-image, round-store, round-accepted}
+use mathlib.Core.Path.{sym, subst, _∙_}
+use Rattle.machine.specs.Dues.{Due, counts-few, dues-found}
+use Rattle.machine.specs.Sound.{other-counts, jobIn}
+use Rattle.machine.specs.QuestionLaws.{round-unsound}
+use borrow.Author.Needs.{needs}
 use Rattle.machine.proofs.questions.round_admission.Statement.{statement}
 use Rattle.machine.proofs.questions.round_admission.Tie as tie
 use Rattle.machine.proofs.questions.round_admission.Reads as reads
 use Rattle.machine.proofs.questions.round_admission.Lts as lts
-use Rattle.machine.proofs.dues.states_fit.Reads as states-fit-reads
-use Rattle.machine.proofs.questions.image_fits.Reads as image-fits-reads
-use Rattle.machine.proofs.questions.store_reaches.Reads as store-reaches-reads
+use Rattle.machine.proofs.dues.due_segments.Reads as due-segments-reads
+use Rattle.machine.proofs.questions.round_answer.Reads as round-answer-reads
+use Rattle.plan.proofs.checks.counts_fit.Reads as counts-fit-reads
+use Rattle.segment.proofs.no_segment.Reads as no-segment-reads
 
--- src/questions.rt:187:9
-states-fit-requires : tie.Need-states-fit-requires
-states-fit-requires c κs = counts-few (c .before .before .before .before .args .plan) (c .before .before .before .before .pre .0) .0
+-- src/questions.rt:223:9
+counts-fit-requires : tie.Need-counts-fit-requires
+counts-fit-requires c κs = search needs
 
--- src/questions.rt:196:9
+-- src/questions.rt:224:21
+no-segment-requires : tie.Need-no-segment-requires
+no-segment-requires c κs = search needs
+
+-- src/questions.rt:225:9
 returns : tie.Need-returns
-returns c = round-unsound _ _ _ _ _ (sym (c .before .states-fit .ensures ∙ fits-decide (c .before .before .before .before .before .before .args .plan) (counts-few (c .before .before .before .before .before .before .args .plan) (c .before .before .before .before .before .before .pre .0) .1) (c .before .before .before .before .before .before .args .areas) (c .before .before .before .before .before .before .args .devices) (c .before .before .before .before .before .before .args .dues) (c .before .before .before .before .before .before .pre .1) (c .before .before .before .before .before .before .pre .0)) ∙ not-true _ (c .if1 .taken))
+returns c = (round-unsound _ _ _ _ _ (sym (other-counts (c .before .before .before .before .before .args .plan) (c .before .before .before .before .before .args .areas) (c .before .before .before .before .before .args .devices) (sym (c .before .before .counts-fit .ensures) ∙ not-true _ (c .before .if1 .taken)))), λ f. absurd (false≢true (other-counts (c .before .before .before .before .before .args .plan) (c .before .before .before .before .before .args .areas) (c .before .before .before .before .before .args .devices) (sym (c .before .before .counts-fit .ensures) ∙ not-true _ (c .before .if1 .taken)) ∙ f)))
 
--- src/questions.rt:198:9
-image-fits-requires : tie.Need-image-fits-requires
-image-fits-requires c κs = counts-few (c .before .before .before .before .before .before .args .plan) (c .before .before .before .before .before .before .pre .0) .0
+-- src/questions.rt:232:9
+due-segments-requires : tie.Need-due-segments-requires
+due-segments-requires c κs = counts-few (c .before .before .before .before .before .before .args .plan) (sym (c .before .before .before .counts-fit .ensures) ∙ not-false _ (c .before .before .if1 .left)) .2
 
--- src/questions.rt:199:9
+-- src/questions.rt:233:9
+round-answer-requires : tie.Need-round-answer-requires
+round-answer-requires c κs = ((sym (c .before .before .before .before .counts-fit .ensures) ∙ not-false _ (c .before .before .before .if1 .left)), subst (λ l. Due (c .before .before .before .before .before .before .before .args .plan) l (jobIn (c .before .before .before .before .before .before .before .args .areas))) (sym (c .due-segments .ensures)) (dues-found (c .before .before .before .before .before .before .before .args .plan) (c .before .before .before .before .before .before .before .args .areas)))
+
+-- src/questions.rt:213:1
 returns-2 : tie.Need-returns-2
-returns-2 c = round-image _ _ _ _ _ (sym (c .before .before .before .states-fit .ensures ∙ fits-decide (c .before .before .before .before .before .before .before .before .args .plan) (counts-few (c .before .before .before .before .before .before .before .before .args .plan) (c .before .before .before .before .before .before .before .before .pre .0) .1) (c .before .before .before .before .before .before .before .before .args .areas) (c .before .before .before .before .before .before .before .before .args .devices) (c .before .before .before .before .before .before .before .before .args .dues) (c .before .before .before .before .before .before .before .before .pre .1) (c .before .before .before .before .before .before .before .before .pre .0)) ∙ not-false _ (c .before .before .if1 .left)) (sym (c .before .image-fits .ensures) ∙ not-true _ (c .if2 .taken))
-
--- src/questions.rt:201:9
-store-reaches-requires : tie.Need-store-reaches-requires
-store-reaches-requires c κs = counts-few (c .before .before .before .before .before .before .before .before .args .plan) (c .before .before .before .before .before .before .before .before .pre .0) .1
-
--- src/questions.rt:202:9
-returns-3 : tie.Need-returns-3
-returns-3 c = round-store _ _ _ _ _ (sym (c .before .before .before .before .before .states-fit .ensures ∙ fits-decide (c .before .before .before .before .before .before .before .before .before .before .args .plan) (counts-few (c .before .before .before .before .before .before .before .before .before .before .args .plan) (c .before .before .before .before .before .before .before .before .before .before .pre .0) .1) (c .before .before .before .before .before .before .before .before .before .before .args .areas) (c .before .before .before .before .before .before .before .before .before .before .args .devices) (c .before .before .before .before .before .before .before .before .before .before .args .dues) (c .before .before .before .before .before .before .before .before .before .before .pre .1) (c .before .before .before .before .before .before .before .before .before .before .pre .0)) ∙ not-false _ (c .before .before .before .before .if1 .left)) (sym (c .before .before .before .image-fits .ensures) ∙ not-false _ (c .before .before .if2 .left)) (sym (c .before .store-reaches .ensures) ∙ not-true _ (c .if3 .taken))
-
--- src/questions.rt:174:1
-returns-4 : tie.Need-returns-4
-returns-4 c = round-accepted _ _ _ _ _ (sym (c .before .before .before .before .before .states-fit .ensures ∙ fits-decide (c .before .before .before .before .before .before .before .before .before .before .args .plan) (counts-few (c .before .before .before .before .before .before .before .before .before .before .args .plan) (c .before .before .before .before .before .before .before .before .before .before .pre .0) .1) (c .before .before .before .before .before .before .before .before .before .before .args .areas) (c .before .before .before .before .before .before .before .before .before .before .args .devices) (c .before .before .before .before .before .before .before .before .before .before .args .dues) (c .before .before .before .before .before .before .before .before .before .before .pre .1) (c .before .before .before .before .before .before .before .before .before .before .pre .0)) ∙ not-false _ (c .before .before .before .before .if1 .left)) (sym (c .before .before .before .image-fits .ensures) ∙ not-false _ (c .before .before .if2 .left)) (sym (c .before .store-reaches .ensures) ∙ not-false _ (c .if3 .left))
+returns-2 c = (c .round-answer .ensures, λ _. subst (λ l. Due (c .before .before .before .before .before .before .before .before .args .plan) l (jobIn (c .before .before .before .before .before .before .before .before .args .areas))) (sym (c .before .due-segments .ensures)) (dues-found (c .before .before .before .before .before .before .before .before .args .plan) (c .before .before .before .before .before .before .before .before .args .areas)))
 
 pub round-admission-spec : {M : Type 1} → statement M
 round-admission-spec =
     tie.close
     (tie.spec
-    states-fit-requires
+    counts-fit-requires
+    no-segment-requires
     returns
-    image-fits-requires
-    returns-2
-    store-reaches-requires
-    returns-3
-    returns-4)
+    due-segments-requires
+    round-answer-requires
+    returns-2)

@@ -13,7 +13,6 @@ use Rattle.manager.proofs.Manager.query_admission.Reads as query-admiss
 query-admission-requires : tie.Need-query-admission-requires
 query-admission-requires c κs = search needs
 
--- /work/h/a/target/rlib/memory.rlib/interface/lang/src/lib.rt:15:28
 enum-told : tie.Need-enum-told
 enum-told c = search needs
 

@@ -15,14 +15,14 @@ use Rattle.rounds.proofs.answers.first_half.Statement.{statement}
 use Rattle.rounds.proofs.answers.first_half.Tie as tie
 use Rattle.rounds.proofs.answers.first_half.Reads as reads
 use Rattle.rounds.proofs.answers.first_half.Lts as lts
-use Rattle.machine.proofs.dues.runner.Reads as runner-reads
+use Rattle.machine.proofs.soundness.runner.Reads as runner-reads
 use Rattle.rounds.proofs.answers.take_answer.Reads as take-answer-reads
 
 abbrev Inv-loop : tie.InvT-loop
-Inv-loop plan image₀ store₀ answers areas₀ devices₀ dues₀ sub-areas records holders d₀ image store areas devices dues d = (d ≤ plan .«device_count») × (sub-areas ≡ plan .«sub_areas») × (records ≡ plan .areas) × (holders ≡ plan .devices) × (length image ≡ length image₀) × (length store ≡ length store₀) × (length areas ≡ 8) × (length devices ≡ 4) × (length dues ≡ 8) × ((coreIn areas devices, memoryOf image store) ≡ both (takeAll plan answers d (lentTo areas₀ devices₀ (memoryOf image₀ store₀)))) × Due plan dues (jobIn areas)
+Inv-loop plan image₀ store₀ answers areas₀ devices₀ dues₀ sub-areas area-records device-records d₀ image store areas devices dues d = (d ≤ plan .«device_count») × (sub-areas ≡ plan .«sub_areas») × (area-records ≡ plan .areas) × (device-records ≡ plan .devices) × (length image ≡ length image₀) × (length store ≡ length store₀) × (length areas ≡ 8) × (length devices ≡ 4) × (length dues ≡ 8) × ((coreIn areas devices, memoryOf image store) ≡ both (takeAll plan answers d (lentTo areas₀ devices₀ (memoryOf image₀ store₀)))) × Due plan dues (jobIn areas)
 
 abbrev μ-loop : tie.MeasureT-loop
-μ-loop plan image₀ store₀ answers areas₀ devices₀ dues₀ sub-areas records holders d₀ image store areas devices dues d = plan .«device_count» - d
+μ-loop plan image₀ store₀ answers areas₀ devices₀ dues₀ sub-areas area-records device-records d₀ image store areas devices dues d = plan .«device_count» - d
 
 -- src/answers.rt:124:5
 loop-holds : tie.Need-loop-holds Inv-loop μ-loop

@@ -2,10 +2,10 @@ use native.Mathlib.Omega.{arith}
 use mathlib.Core.Path.{_≡_, sym, _∙_, refl, ap}
 use borrow.Author.Tests.{lt-ltb, le-ltb, not-true, not-false}
 use borrow.Author.Needs.{needs}
-use Rattle.machine.proofs.dues.runner.Statement.{statement}
-use Rattle.machine.proofs.dues.runner.Tie as tie
-use Rattle.machine.proofs.dues.runner.Reads as reads
-use Rattle.machine.proofs.dues.runner.Lts as lts
+use Rattle.machine.proofs.soundness.runner.Statement.{statement}
+use Rattle.machine.proofs.soundness.runner.Tie as tie
+use Rattle.machine.proofs.soundness.runner.Reads as reads
+use Rattle.machine.proofs.soundness.runner.Lts as lts
 
 -- src/dues.rt:74:30
 enum-told : tie.Need-enum-told

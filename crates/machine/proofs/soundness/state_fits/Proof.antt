@@ -2,10 +2,10 @@ use native.Mathlib.Omega.{arith}
 use mathlib.Core.Path.{_≡_, sym, _∙_, refl, ap}
 use borrow.Author.Tests.{le-leb, lt-leb, lt-ltb, le-ltb, not-true, not-false}
 use borrow.Author.Needs.{needs}
-use Rattle.machine.proofs.dues.state_fits.Statement.{statement}
-use Rattle.machine.proofs.dues.state_fits.Tie as tie
-use Rattle.machine.proofs.dues.state_fits.Reads as reads
-use Rattle.machine.proofs.dues.state_fits.Lts as lts
+use Rattle.machine.proofs.soundness.state_fits.Statement.{statement}
+use Rattle.machine.proofs.soundness.state_fits.Tie as tie
+use Rattle.machine.proofs.soundness.state_fits.Reads as reads
+use Rattle.machine.proofs.soundness.state_fits.Lts as lts
 use Rattle.machine.proofs.soundness.job_runs.Reads as job-runs-reads
 use Rattle.machine.proofs.soundness.segment_fits.Reads as segment-fits-reads
 
