@@ -2,7 +2,7 @@
 ghost use mathlib.Core.Path.{_≡_};
 ghost use Prim.Native.Nat.{_-_};
 ghost use lib.Dec.{leb};
-ghost use Rattle.rules.specs.Machine.{isPending, isPendingStatus, isCancelling, begunWith, ended, cancelled, moved, jobFailed, jobDiffers, afterFinished};
+ghost use Rattle.rules.specs.Machine.{isPending, isCancelling, begunWith, ended, cancelled, moved, jobFailed, jobDiffers, afterFinished};
 use memory::JobResult;
 use memory::JobStatus;
 use memory::Task;

@@ -88,7 +88,16 @@ pub fn states_fit(
         let job = entry.job;
         let device_record = device_records[d];
         let area_record = area_records[area];
-        if !state_fits(sum, device_record, area_count, area_record, d, job, dues[area], state) {
+        if !state_fits(
+            sum,
+            device_record,
+            area_count,
+            area_record,
+            d,
+            job,
+            dues[area],
+            state,
+        ) {
             return false;
         }
         d += 1;

@@ -17,7 +17,7 @@ bytes zero n = []
 bytes (suc width) n = n % 256 ∷ bytes width (n / 256)
 
 abbrev pub device : ℕ → ℕ → ℕ → List ℕ
-device start size patience = 68 ∷ 86 ∷ bytes 4 start ++ bytes 4 size ++ bytes 2 patience
+device start size limit = 68 ∷ 86 ∷ bytes 4 start ++ bytes 4 size ++ bytes 2 limit
 
 abbrev pub area : ℕ → ℕ → ℕ → ℕ → List ℕ
 area priority start window size = 65 ∷ 82 ∷ bytes 2 priority ++ bytes 4 start ++ bytes 4 window ++ bytes 4 size
@@ -29,10 +29,10 @@ subArea a d start sizes count writes erases =
 abbrev pub sizes : ℕ → ℕ → ℕ → ℕ → ℕ → ℕ → List ℕ
 sizes sector burst page pages least most = bytes 4 sector ++ bytes 4 burst ++ bytes 4 page ++ bytes 4 pages ++ bytes 4 least ++ bytes 4 most
 
--- plan T, but for device length, patience and the first sub-area's sector burst
+-- plan T, but for device length, poll limit and the first sub-area's sector burst
 abbrev pub planWith : ℕ → ℕ → ℕ → List ℕ
-planWith size patience burst =
-    device 0 size patience ++ area 1 0 0 16 ++ area 5 256 16 16 ++ subArea 0 0 0 (sizes 16 burst 4 8 1 8) 2 1 0
+planWith size limit burst =
+    device 0 size limit ++ area 1 0 0 16 ++ area 5 256 16 16 ++ subArea 0 0 0 (sizes 16 burst 4 8 1 8) 2 1 0
     ++ subArea 1 0 32 (sizes 16 16 4 4 1 4) 2 0 0
 
 abbrev pub planT : List ℕ

@@ -7,7 +7,7 @@ use lib.ListN.{length}
 use native.Mathlib.Omega.{arith}
 use borrow.Author.Tests.{eq-eqb, ne-eqb}
 use Rattle.arith.specs.FirstNo.{firstNo}
-use Rattle.plan.specs.Records.{deviceCount, areaCount, subAreaCount, recordsEnd, recordLayout, planOf, emptyPlan}
+use Rattle.plan.specs.Records.{recordsEnd, recordLayout, planOf, emptyPlan}
 use Rattle.plan.specs.Questions.{wholeRecords, countsFit, recordQuestions, planQuestions, loadNumber, loadedPlan}
 use Rattle.plan.specs.declared.records.Plan.{Plan}
 use Rattle.plan.specs.declared.scan.RecordLayout.{RecordLayout}

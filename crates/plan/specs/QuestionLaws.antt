@@ -23,7 +23,7 @@ start-due l n first next zero h = first
 start-due l n first next (suc i) h = rw add-one at (next i (omega arith))
 
 module _ (s n t m : ℕ) where
-  -- the two answers to `apart`: no byte is in both stretches, or the larger of the two starts is
+  -- the two answers to `apart`: no byte is in both ranges, or the larger of the two starts is
   by-apart : {P : Type 0} → (apart s n t m ≡ true → ((x : ℕ) → Among s n x → Among t m x → ⊥) → P) →
       (apart s n t m ≡ false → (x : ℕ) → Among s n x → Among t m x → P) → P
   unfolding apart
@@ -34,15 +34,15 @@ module _ (s n t m : ℕ) where
       by-eqb m 0 (λ e h. f (simp (e1, e2, e3, e)) (λ x a b. omega arith)) λ e4 h4.
       g (simp (e1, e2, e3, e4)) (max s t) (omega arith) (omega arith)
 
-  -- stretches that are apart share no byte
+  -- ranges that are apart share no byte
   apart-elim : apart s n t m ≡ true → (x : ℕ) → Among s n x → Among t m x → ⊥
   apart-elim e = by-apart (λ _ h. h) (λ f. absurd (true≢false (sym e ∙ f)))
 
-  -- stretches that share no byte are apart
+  -- ranges that share no byte are apart
   apart-intro : ((x : ℕ) → Among s n x → Among t m x → ⊥) → apart s n t m ≡ true
   apart-intro h = by-apart (λ e _. e) (λ _ x a b. absurd (h x a b))
 
--- questions 4 and 8: of n stretches, no two share a byte
+-- questions 4 and 8: of n ranges, no two share a byte
 pub all-apart : (start length : ℕ → ℕ) (n : ℕ) →
     (everyPair (λ i j. apart (start i) (length i) (start j) (length j)) n ≡ true)
     ↔ ((i j : ℕ) → i < n → j < n → (i ≡ j → ⊥) → (x : ℕ) → Among (start i) (length i) x → Among (start j) (length j) x → ⊥)

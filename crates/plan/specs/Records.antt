@@ -8,7 +8,6 @@ use Rattle.arith.specs.Cases.{pick}
 use Rattle.arith.specs.Tables.{table}
 use Rattle.plan.specs.Number.{numberAt}
 use Rattle.plan.specs.declared.records.DeviceRecord.{DeviceRecord}
-use Rattle.plan.specs.declared.records.Window.{Window}
 use Rattle.plan.specs.declared.records.AreaRecord.{AreaRecord}
 use Rattle.plan.specs.declared.records.Granularity.{Granularity}
 use Rattle.plan.specs.declared.records.SubAreaRecord.{SubAreaRecord}

@@ -1,11 +1,7 @@
 -- What acceptance of a plan means, as plain facts. Later proofs use these and never look into the questions.
-use Prim.Native.Nat.{ℕ, zero, suc, _+_, _*_, _≤_, _<_, _∣_}
-use mathlib.Core.Path.{_≡_, refl}
-use mathlib.Core.Bool.{Bool, true, false}
-use mathlib.Core.List.{List}
-use mathlib.Core.Logic.{_↔_}
-use Rattle.plan.specs.Records.{planOf, isRecord, deviceFormat, areaFormat, subAreaFormat}
-use Rattle.plan.specs.Questions.{deviceOf, areaOf, subAreaOf, deviceEnd, windowEnd, lengthSum, sizeOf, endOf, areaSize, wholeRecords, loadNumber}
+use Prim.Native.Nat.{ℕ, _+_, _≤_, _<_, _∣_}
+use mathlib.Core.Path.{_≡_}
+use Rattle.plan.specs.Questions.{deviceOf, areaOf, subAreaOf, deviceEnd, windowEnd, lengthSum, sizeOf, endOf, areaSize}
 use Rattle.plan.specs.declared.records.Granularity.{Granularity}
 use Rattle.plan.specs.declared.records.Plan.{Plan}
 

@@ -1,6 +1,6 @@
 // What the questions of a load ask of one record, of two records, and of the counts.
 ghost use mathlib.Core.Path.{_≡_};
-ghost use Prim.Native.Nat.{ℕ, _+_, _*_, _≤_, _<_};
+ghost use Prim.Native.Nat.{_+_, _*_, _≤_, _<_};
 ghost use lib.Dec.{leb};
 ghost use Rattle.plan.specs.Questions.{within, countsFit, apart, deviceEnd, deviceJoins, windowEnd, windowsApart, granularityFits, sizesFit, sizeOf, endOf, insideDevice, isPlaced, subAreasApart};
 use crate::number::is_multiple;

@@ -1,12 +1,12 @@
 // Questions 3 to 8 of a load, each over all records of a plan.
 ghost use mathlib.Core.Bool.{true};
 ghost use mathlib.Core.Path.{_≡_};
-ghost use Prim.Native.Nat.{ℕ, _+_, _*_, _≤_, _<_};
+ghost use Prim.Native.Nat.{ℕ, _+_, _≤_, _<_};
 ghost use lib.Dec.{leb};
 ghost use Rattle.arith.specs.Bounded.{every, everyPair};
 ghost use Rattle.arith.specs.FirstNo.{firstNo};
 ghost use Rattle.memory.specs.Numbers.{admissionNumber};
-ghost use Rattle.plan.specs.Questions.{areaOf, subAreaOf, devicesJoin, lengthSum, windowEnd, windowsApart, windowsFit, sizesFit, allSizesFit, isPlaced, sizeOf, neverFalling, hasSubArea, sizeIn, areaSize, spaceFits, subAreasApart, allApart, countsFit, allPlaced, spacesFit, recordQuestions};
+ghost use Rattle.plan.specs.Questions.{areaOf, subAreaOf, devicesJoin, lengthSum, windowEnd, windowsApart, windowsFit, allSizesFit, isPlaced, sizeOf, neverFalling, hasSubArea, sizeIn, areaSize, spaceFits, subAreasApart, allApart, countsFit, allPlaced, spacesFit, recordQuestions};
 use crate::records::AreaRecord;
 use crate::records::DeviceRecord;
 use crate::records::Plan;

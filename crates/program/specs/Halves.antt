@@ -1,7 +1,7 @@
 -- What a round's halves leave alone.
 use Prim.Native.Nat.{ℕ, zero, suc, _≤_}
 use mathlib.Core.Bool.{false, true≢false}
-use mathlib.Core.List.{List, []}
+use mathlib.Core.List.{List}
 use mathlib.Core.Path.{_≡_, refl, sym, ap, _∙_}
 use native.Mathlib.Nat.{le-refl}
 use native.Mathlib.Omega.{arith}
@@ -12,10 +12,9 @@ use Rattle.rules.specs.Admission.{admits}
 use Rattle.rules.specs.Best.{ready-plain}
 use Rattle.rules.specs.Layout.{Layout, layoutOf}
 use Rattle.rules.specs.Machine.{Core, isPending, secondHalf}
-use Rattle.rules.specs.Memory.{Memory}
 use Rattle.rules.specs.Reachable.{Reachable}
 use Rattle.rules.specs.Requests.{running-on}
-use Rattle.rules.specs.Round.{Half, answerOf, takeIn, takeAll, roundHalves}
+use Rattle.rules.specs.Round.{Half, answerOf, takeAll, roundHalves}
 use Rattle.rules.specs.StepLaws.{take-case, untouched, start-case}
 
 -- the second half leaves an area that is not pending

@@ -2,7 +2,7 @@
 ghost use mathlib.Core.Path.{_≡_};
 ghost use Prim.Native.Nat.{_+_, _≤_, min};
 ghost use lib.ListN.{length};
-ghost use Rattle.rules.specs.Memory.{Memory, imageAfter, storeAfter, agrees, verdictOf, memoryAfter};
+ghost use Rattle.rules.specs.Memory.{imageAfter, storeAfter, agrees, verdictOf, memoryAfter};
 ghost use Rattle.requests.specs.Effects.{verdict, lentEnd, memoryOf};
 use memory::DeviceAnswer;
 use memory::JobType;

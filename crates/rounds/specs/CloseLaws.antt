@@ -6,7 +6,6 @@ use mathlib.Core.Path.{_≡_, refl, sym, ap, _∙_}
 use borrow.Author.Tests.{eq-eqb, ne-eqb}
 use lib.ListN.{length, getD, List·getD-eq-default}
 use native.Mathlib.Omega.{arith}
-use Rattle.arith.specs.Cases.{by-bool}
 use Rattle.machine.specs.Sound.{jobIn, stateIn, coreIn}
 use Rattle.plan.specs.Questions.{areaOf}
 use Rattle.plan.specs.Records.{noArea}

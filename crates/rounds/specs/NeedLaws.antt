@@ -1,11 +1,11 @@
 -- The devices that the code finds once are those that the rules ask for, device by device.
 use Prim.Native.Nat.{ℕ, zero, suc, _≤_, _<_}
-use mathlib.Core.Bool.{Bool, true, false, _&&_, false≢true}
+use mathlib.Core.Bool.{Bool, true, false≢true}
 use mathlib.Core.List.{List}
 use mathlib.Core.Path.{_≡_, refl, sym, ap, subst, _∙_}
 use native.Mathlib.Omega.{arith}
 use lib.ListN.{length, getD}
-use Rattle.arith.specs.Cases.{pick, by-bool}
+use Rattle.arith.specs.Cases.{by-bool}
 use Rattle.arith.specs.Parts.{upd-case}
 use Rattle.arith.specs.Tables.{table-at, table-same, table-whole}
 use Rattle.machine.specs.Dues.{Due}
@@ -13,7 +13,7 @@ use Rattle.machine.specs.Sound.{jobIn, stateIn, coreIn}
 use Rattle.memory.specs.declared.DeviceAnswer.{DeviceAnswer}
 use Rattle.plan.specs.declared.records.Plan.{Plan}
 use Rattle.rules.specs.Layout.{Layout, layoutOf}
-use Rattle.rules.specs.Machine.{Core, Choice, nobody, area, Wait, isPending, need, ready, better, best, startChoice, startOn, start, secondHalf, behind, waitOn, waitOf}
+use Rattle.rules.specs.Machine.{Core, Choice, nobody, area, isPending, need, ready, better, best, startChoice, startOn, start, secondHalf, behind, waitOn, waitOf}
 use Rattle.rules.specs.Memory.{Memory}
 use Rattle.rules.specs.Round.{takeAll, roundHalves}
 use Rattle.rules.specs.StepLaws.{start-case}
@@ -25,7 +25,7 @@ use Rattle.state.specs.declared.Device.{Device}
 use Rattle.state.specs.declared.DeviceState.{DeviceState}
 use Rattle.state.specs.declared.DeviceState.the-variants.{Free, Runs, LockedFor}
 use Rattle.state.specs.declared.Waits.{Waits}
-use Rattle.rounds.specs.Close.{closed, waitsIn, areaAfter, areasAfter, deviceAfter, devicesAfter, lentTo, halvesOf}
+use Rattle.rounds.specs.Close.{closed, waitsIn, areasAfter, deviceAfter, devicesAfter, lentTo, halvesOf}
 use Rattle.rounds.specs.Picks.{needsOf, needsLayout}
 
 -- the list has, for each pending job, the device that it needs

@@ -1,21 +1,19 @@
 -- The second half of a round: the code's choice is that of the rules.
 use Prim.Native.Nat.{ℕ, zero, suc, _+_, _≤_, _<_}
-use mathlib.Core.Bool.{Bool, true, false, _&&_, false≢true, true≢false}
+use mathlib.Core.Bool.{Bool, true, false, false≢true, true≢false}
 use mathlib.Core.List.{List}
 use mathlib.Core.Path.{_≡_, refl, sym, ap, subst, _∙_}
 use native.Mathlib.Numerals.{add-one}
 use native.Mathlib.Omega.{arith}
 use borrow.Author.Tests.{lt-ltb}
-use lib.Dec.{ltb, eqb}
 use lib.ListN.{length, getD, set}
-use Rattle.arith.specs.Bounded.{below-suc}
 use Rattle.arith.specs.Cases.{pick, by-bool}
 use Rattle.arith.specs.Parts.{upd}
 use Rattle.machine.specs.Sound.{jobIn, stateIn, coreIn}
 use Rattle.plan.specs.Questions.{areaOf}
 use Rattle.plan.specs.declared.records.AreaRecord.{AreaRecord}
 use Rattle.rules.specs.Layout.{Layout, ranksAbove}
-use Rattle.rules.specs.Machine.{Core, Choice, nobody, area, isPending, ready, better, best, startJob, startChoice, startOn, start, secondHalf}
+use Rattle.rules.specs.Machine.{Core, Choice, nobody, area, ready, better, best, startJob, startChoice, startOn, start, secondHalf}
 use Rattle.segment.specs.Segments.{isLock}
 use Rattle.state.specs.Fresh.{freshArea, freeDevice}
 use Rattle.state.specs.declared.Area.{Area}

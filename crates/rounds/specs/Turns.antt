@@ -1,6 +1,6 @@
 -- The first half of a round, as the code goes: a device at a time, with the due segments that were found before it.
 use Prim.Native.Nat.{ℕ, _+_, _≤_, _<_}
-use mathlib.Core.Bool.{Bool, true, false}
+use mathlib.Core.Bool.{true}
 use mathlib.Core.List.{List}
 use mathlib.Core.Path.{_≡_, refl, sym, ap, subst, _∙_}
 use native.Mathlib.Omega.{arith}
@@ -23,7 +23,7 @@ use Rattle.rules.specs.Memory.{Memory, verdictOf, memoryAfter}
 use Rattle.rules.specs.Round.{takeIn}
 use Rattle.segment.specs.Segments.{noSegment, segmentAt}
 use Rattle.segment.specs.declared.Segment.{Segment}
-use Rattle.state.specs.Fresh.{freshArea, freeDevice}
+use Rattle.state.specs.Fresh.{freshArea}
 use Rattle.state.specs.declared.Area.{Area}
 use Rattle.state.specs.declared.Device.{Device}
 use Rattle.state.specs.declared.DeviceState.{DeviceState}
@@ -31,7 +31,7 @@ use Rattle.state.specs.declared.DeviceState.the-variants.{Free, Runs, LockedFor
 use Rattle.state.specs.declared.Job.{Job}
 use Rattle.requests.specs.Effects.{lentEnd}
 use Rattle.requests.specs.Requests.{takenState, takenWith, dueWith, nextOf, Fits, request-fits, job-taken, due-taken, state-taken, memory-taken, found-fits}
-use Rattle.rounds.specs.AnswerLaws.{core-set, core-kept, free-core, free-memory, locked-core, locked-memory, runs-core, runs-memory}
+use Rattle.rounds.specs.AnswerLaws.{core-kept, free-core, free-memory, locked-core, locked-memory, runs-core, runs-memory}
 use Rattle.rounds.specs.Close.{lentTo}
 
 -- image and store hold what a running request needs of them

@@ -1,12 +1,10 @@
 // The close of a round: each job that was pending before it and still is adds 1 to one count.
-ghost use mathlib.Core.Bool.{Bool};
 ghost use mathlib.Core.Path.{_≡_};
 ghost use Prim.Native.Nat.{_<_};
-ghost use lib.ListN.{getD};
-ghost use Rattle.machine.specs.Sound.{coreIn, stateIn};
+ghost use Rattle.machine.specs.Sound.{coreIn};
 ghost use Rattle.plan.specs.Questions.{areaOf};
-ghost use Rattle.rules.specs.Machine.{behind, waitOn, isPending};
-ghost use Rattle.rounds.specs.Close.{stick, counted, closed, areasAfter};
+ghost use Rattle.rules.specs.Machine.{behind, waitOn};
+ghost use Rattle.rounds.specs.Close.{stick, counted, areasAfter};
 ghost use Rattle.rounds.specs.CloseLaws.{waitIs, rankLayout, closedArea};
 ghost use Rattle.rounds.specs.Picks.{needsLayout};
 use crate::picks::ranks_above;

@@ -3,7 +3,6 @@ ghost use mathlib.Core.Bool.{_&&_};
 ghost use mathlib.Core.Path.{_≡_};
 ghost use Prim.Native.Nat.{_≤_, _<_};
 ghost use lib.Dec.{eqb};
-ghost use lib.ListN.{getD};
 ghost use Rattle.arith.specs.Cases.{pick};
 ghost use Rattle.machine.specs.Sound.{coreIn};
 ghost use Rattle.rules.specs.Machine.{isPending, secondHalf};

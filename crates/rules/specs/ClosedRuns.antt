@@ -50,7 +50,7 @@ prints plan n lines =
     (record { history = History.start; memory = record { image = replicate n 255; store = replicate 32 0 }; printed = [] }) .printed
 
 pub closed-runs :
-    -- A request that is dropped by patience is due again where a retry is left, and may start in the same round.
+    -- A request that is dropped at the poll limit is due again where a retry is left, and may start in the same round.
     (prints planT 64 (job Write 0 4 4 ∷ answers (Pending ∷ []) ∷ answers (Pending ∷ []) ∷ answers (Pending ∷ []) ∷ answers (Done ∷ []) ∷ ask 0 ∷ [])
     ≡ number 0 ∷ devices (request 0 1 4 4 ∷ []) ∷ devices (request 0 1 4 4 ∷ []) ∷ devices (request 0 1 4 4 ∷ []) ∷ devices (nothing ∷ []) ∷ info 0 4 3 0 0 0 ∷ [])
     -- Without a retry the drop ends the job with 1.
@@ -62,7 +62,7 @@ pub closed-runs :
     -- The image holds 255, the window 0.
     × (prints planT 64 (job Compare 0 0 4 ∷ answers (Pending ∷ []) ∷ answers (Done ∷ []) ∷ ask 0 ∷ [])
     ≡ number 0 ∷ devices (request 0 3 0 4 ∷ []) ∷ devices (nothing ∷ []) ∷ info 2 0 1 0 0 0 ∷ [])
-    -- The area stays pending; the done piece counts, and the result is 3.
+    -- The area stays pending; the done segment counts, and the result is 3.
     × (prints planT 64 (job Write 0 4 12 ∷ answers (Pending ∷ []) ∷ cancel 0 ∷ ask 0 ∷ cancel 0 ∷ answers (Done ∷ []) ∷ ask 0 ∷ cancel 0 ∷ [])
     ≡ number 0 ∷ devices (request 0 1 4 4 ∷ []) ∷ number 0 ∷ info 0 0 1 0 0 0 ∷ number 0 ∷ devices (nothing ∷ []) ∷ info 3 4 1 0 0 0 ∷ number 17 ∷ [])
     -- The lock goes to the higher area; the write waits until the release. Only the holder releases.
@@ -74,7 +74,7 @@ pub closed-runs :
     -- Two devices run side by side.
     × (prints planU 96 (job Write 0 16 4 ∷ job Write 1 0 4 ∷ answers (Pending ∷ Pending ∷ []) ∷ answers (Done ∷ Pending ∷ []) ∷ answers (Pending ∷ Done ∷ []) ∷ ask 0 ∷ ask 1 ∷ [])
     ≡ number 0 ∷ number 0 ∷ devices (request 1 1 48 4 ∷ request 0 1 64 4 ∷ []) ∷ devices (nothing ∷ request 0 1 64 4 ∷ []) ∷ devices (nothing ∷ nothing ∷ []) ∷ info 0 4 2 0 0 0 ∷ info 0 4 1 0 0 0 ∷ [])
-    -- A job whose piece is done on device 1 goes on on device 0 in the same round, before a lower area: all answers come first.
+    -- A job whose segment is done on device 1 goes on on device 0 in the same round, before a lower area: all answers come first.
     × (prints planU 96 (job Erase 0 16 32 ∷ answers (Pending ∷ Pending ∷ []) ∷ job Write 1 0 4 ∷ answers (Pending ∷ Done ∷ []) ∷ answers (Done ∷ Pending ∷ []) ∷ answers (Done ∷ Pending ∷ []) ∷ ask 0 ∷ ask 1 ∷ [])
     ≡ number 0 ∷ devices (nothing ∷ request 0 4 64 16 ∷ []) ∷ number 0 ∷ devices (request 0 4 16 16 ∷ nothing ∷ []) ∷ devices (request 1 1 48 4 ∷ nothing ∷ []) ∷ devices (nothing ∷ nothing ∷ []) ∷ info 0 32 2 0 0 0 ∷ info 0 4 1 1 0 0 ∷ [])
     -- Logical address 32 is at physical 16, which is no multiple of the sector burst 32; at physical 32 only one sector is left.

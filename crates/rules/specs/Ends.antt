@@ -15,7 +15,7 @@ use Rattle.rules.specs.Layout.{layoutOf}
 use Rattle.rules.specs.Machine.{Core, isPending, isCancelling, due, finished, differs, afterFailed, jobFailed, afterFinished, jobFinished, afterDiffers, jobDiffers}
 use Rattle.rules.specs.Memory.{Memory, verdictOf}
 use Rattle.rules.specs.Round.{windowPlace}
-use Rattle.rules.specs.Results.{isDone, isOver, agreesDue, Answered, Ends, last-piece, no-retry, byte-differs, was-cancelled, by-cancel, by-lock, by-answer}
+use Rattle.rules.specs.Results.{isDone, isOver, agreesDue, Answered, Ends, last-segment, no-retry, byte-differs, was-cancelled, by-cancel, by-lock, by-answer}
 use Rattle.rules.specs.StepLaws.{jobTaken}
 
 module _ (p : Plan) (d a q : ℕ) (j : Job) (m : Memory) (h : isPending j ≡ true) where
@@ -52,7 +52,7 @@ module _ (p : Plan) (d a q : ℕ) (j : Job) (m : Memory) (h : isPending j ≡ tr
       go : (s t : Bool) → isCancelling (j .status) ≡ s → leb (j .task .length) x ≡ t → (r : ℕ) → isPending (afterFinished s t x r j) ≡ false →
           Answered p d a q j Answers.Done m (afterFinished s t x r j .result .0)
       go true t c e r k = was-cancelled refl c
-      go false true c e r k = last-piece refl f c (leb-true _ _ e)
+      go false true c e r k = last-segment refl f c (leb-true _ _ e)
       go false false c e r k = absurd (true≢false (sym h ∙ k))
 
   -- every answer
@@ -74,7 +74,7 @@ module _ (p : Plan) (d a q : ℕ) (j : Job) (m : Memory) (h : isPending j ≡ tr
 pub ends-few : {p : Plan} {h : History} {e : Core} {a : ℕ} {c : Call} {r : ℕ} → Ends p h e a c r → r ≤ 3
 ends-few (by-cancel o) = omega arith
 ends-few (by-lock k g) = omega arith
-ends-few (by-answer d q e (last-piece o s c l)) = omega arith
+ends-few (by-answer d q e (last-segment o s c l)) = omega arith
 ends-few (by-answer d q e (no-retry o s c l)) = omega arith
 ends-few (by-answer d q e (byte-differs o s c)) = omega arith
 ends-few (by-answer d q e (was-cancelled o c)) = omega arith

@@ -26,28 +26,28 @@ t = Records.planOf planT
 abbrev pub task : JobType → ℕ → ℕ → Task
 task k address n = record { kind = k; address = record { 0 = address }; length = n }
 
--- `piece n p`: n bytes at physical address p
-pub data Piece : Type 0 where
-  piece : ℕ → ℕ → Piece
+-- `bytes n p`: n bytes at physical address p
+pub data Range : Type 0 where
+  bytes : ℕ → ℕ → Range
 
-abbrev pub pieces : List Segment → List Piece
-pieces [] = []
-pieces (s ∷ l) = piece (s .length) (s .start .0) ∷ pieces l
+abbrev pub ranges : List Segment → List Range
+ranges [] = []
+ranges (s ∷ l) = bytes (s .length) (s .start .0) ∷ ranges l
 
--- the pieces of a job of area 0
-abbrev pub cutOf : JobType → ℕ → ℕ → List Piece
-cutOf k address n = pieces (Segments.segmentsFrom (Segments.segmentAt t 0 (task k address n)) (task k address n) 0)
+-- the segments of a job of area 0
+abbrev pub cutOf : JobType → ℕ → ℕ → List Range
+cutOf k address n = ranges (Segments.segmentsFrom (Segments.segmentAt t 0 (task k address n)) (task k address n) 0)
 
 -- the number that a job gets on the fresh manager
 abbrev pub answer : ℕ → JobType → ℕ → ℕ → ℕ
 answer a k address n = Admission.jobNumber t (History.start .core) a (task k address n)
 
 pub marked-cases :
-    (cutOf Write 4 12 ≡ piece 4 4 ∷ piece 8 8 ∷ [])
-    × (cutOf Write 8 12 ≡ piece 8 8 ∷ piece 4 16 ∷ [])
-    × (cutOf Erase 0 32 ≡ piece 32 0 ∷ [])
-    × (cutOf Erase 16 16 ≡ piece 16 16 ∷ [])
-    × (cutOf Read 3 13 ≡ piece 8 3 ∷ piece 5 11 ∷ [])
+    (cutOf Write 4 12 ≡ bytes 4 4 ∷ bytes 8 8 ∷ [])
+    × (cutOf Write 8 12 ≡ bytes 8 8 ∷ bytes 4 16 ∷ [])
+    × (cutOf Erase 0 32 ≡ bytes 32 0 ∷ [])
+    × (cutOf Erase 16 16 ≡ bytes 16 16 ∷ [])
+    × (cutOf Read 3 13 ≡ bytes 8 3 ∷ bytes 5 11 ∷ [])
     × (answer 0 Read 31 1 ≡ 0)
     × (answer 0 Read 31 2 ≡ 12)
     × (answer 0 Read 0 0 ≡ 12)

@@ -35,7 +35,7 @@ agreesDue p a j m = agrees (j .task .kind) (due (layoutOf p) a j .start .0) (win
 -- Why area a's job j ends with a result when device d, where its request runs, takes answer x while the memory is m
 pub data Answered (p : Plan) (d a polls : ℕ) (j : Job) (x : DeviceAnswer) (m : Memory) : ℕ → Type 0 where
   -- "after the last piece the job ends with 0"
-  last-piece : isDone x ≡ true → agreesDue p a j m ≡ true → isCancelling (j .status) ≡ false →
+  last-segment : isDone x ≡ true → agreesDue p a j m ≡ true → isCancelling (j .status) ≡ false →
       j .task .length ≤ j .processed + due (layoutOf p) a j .length → Answered p d a polls j x m 0
   -- "with a retry left the same piece is due again, otherwise the job ends with 1"
   no-retry : isDone x ≡ false → isOver (layoutOf p .limit d) polls x ≡ true → isCancelling (j .status) ≡ false →

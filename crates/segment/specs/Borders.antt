@@ -1,4 +1,4 @@
--- The piece rule at its borders, evaluated on a sub-area of three sectors of 16 that begins at physical 16, sector burst 32.
+-- How a job is cut, at the borders of the rule, evaluated on a sub-area of three sectors of 16 that begins at physical 16, sector burst 32.
 use Prim.Native.Nat.{ℕ}
 use mathlib.Core.Path.{_≡_, refl}
 use Rattle.arith.specs.Multiples.{multiple}

@@ -1,8 +1,7 @@
 -- What the code makes of what the lookup found.
 use Prim.Native.Nat.{ℕ, zero, suc, _+_, _-_, _≤_, _<_}
 use mathlib.Core.List.{List}
-use mathlib.Core.Bool.{Bool, true, false}
-use mathlib.Core.Path.{_≡_, refl, sym, _∙_}
+use mathlib.Core.Path.{_≡_, refl}
 use lib.Dec.{ltb}
 use native.Mathlib.Omega.{arith}
 use Rattle.arith.specs.Cases.{by-bool, by-ltb}

@@ -15,7 +15,7 @@ use Rattle.plan.specs.declared.records.SubAreaRecord.{SubAreaRecord}
 use Rattle.segment.specs.Lookup.{met, outcomeOf, seekTo}
 use Rattle.segment.specs.Mapping.{find}
 use Rattle.segment.specs.declared.Found.{Found}
-use Rattle.segment.specs.declared.Found.the-variants.{Outside, At}
+use Rattle.segment.specs.declared.Found.the-variants.{At}
 use Rattle.segment.specs.declared.Seek.{Seek}
 
 -- what the lookup will find from here on: record i is the next, and k are left

@@ -1,6 +1,6 @@
 // What moves in a manager: each area's latest job with its waits, and what each device does.
 ghost use mathlib.Core.Path.{_≡_};
-ghost use Rattle.state.specs.Fresh.{noJob, noWaits, freshArea, freeDevice};
+ghost use Rattle.state.specs.Fresh.{noJob, freshArea, freeDevice};
 use memory::JobResult;
 use memory::JobStatus;
 use memory::JobType;

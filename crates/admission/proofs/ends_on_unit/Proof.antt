@@ -7,43 +7,33 @@ use Rattle.admission.proofs.ends_on_unit.Lts as lts
 use Rattle.plan.proofs.number.is_multiple.Reads as is-multiple-reads
 use Rattle.segment.proofs.unit_of.Reads as unit-of-reads
 
--- src/lib.rt:57:27
 enum-told : tie.Need-enum-told
 enum-told c = search needs
 
--- src/lib.rt:58:21
 enum-known-found : tie.Need-enum-known-found
 enum-known-found c = search needs
 
--- src/lib.rt:59:38
 mul-unit-of : tie.Need-mul-unit-of
 mul-unit-of c = let kept = rw (c .before .found .given .1) at (c .before .before .before .pre) in omega (arith, kept .0)
 
--- src/lib.rt:59:38
 array-copy-out-unit-of : tie.Need-array-copy-out-unit-of
 array-copy-out-unit-of c = let kept = rw (c .before .found .given .1) at (c .before .before .before .pre) in omega (arith, kept .0)
 
--- src/lib.rt:59:17
 unit-of-requires : tie.Need-unit-of-requires
 unit-of-requires c κs = search needs
 
--- src/lib.rt:60:25
 cast-is-multiple : tie.Need-cast-is-multiple
 cast-is-multiple c = search needs
 
--- src/lib.rt:60:38
 add-is-multiple : tie.Need-add-is-multiple
 add-is-multiple c = let kept = rw (c .before .before .before .found .given .1) at (c .before .before .before .before .before .pre) in omega (arith, kept .1)
 
--- src/lib.rt:60:13
 is-multiple-requires : tie.Need-is-multiple-requires
 is-multiple-requires c κs = search needs
 
--- src/lib.rt:52:1
 returns : tie.Need-returns
 returns c = search needs
 
--- src/lib.rt:52:1
 returns-2 : tie.Need-returns-2
 returns-2 c = rw (c .before .before .before .before .found .given .1) (rw (c .before .unit-of .ensures) at (c .is-multiple .ensures))
 

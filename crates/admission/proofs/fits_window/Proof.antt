@@ -5,15 +5,12 @@ use Rattle.admission.proofs.fits_window.Tie as tie
 use Rattle.admission.proofs.fits_window.Reads as reads
 use Rattle.admission.proofs.fits_window.Lts as lts
 
--- src/lib.rt:100:18
 mul-record : tie.Need-mul-record
 mul-record c = search needs
 
--- src/lib.rt:100:18
 element-copy-out-record : tie.Need-element-copy-out-record
 element-copy-out-record c = search needs
 
--- src/lib.rt:96:1
 returns : tie.Need-returns
 unfolding Rattle.rules.specs.Admission.fitsWindow
 returns c = refl

@@ -10,44 +10,34 @@ use Rattle.admission.proofs.ends_on_unit.Reads as ends-on-unit-reads
 use Rattle.admission.proofs.starts_on_unit.Reads as starts-on-unit-reads
 use Rattle.segment.proofs.map_address.Reads as map-address-reads
 
--- src/lib.rt:72:19
 cast-address : tie.Need-cast-address
 cast-address c = search needs
 
--- src/lib.rt:73:9
 map-address-requires : tie.Need-map-address-requires
 map-address-requires c κs = search needs
 
--- src/lib.rt:74:9
 starts-on-unit-requires : tie.Need-starts-on-unit-requires
 starts-on-unit-requires c κs = mapped-kept _ _ _ (omega arith) (omega arith) _ (c .map-address .ensures)
 
--- src/lib.rt:75:9
 returns : tie.Need-returns
 unfolding Rattle.rules.specs.Admission.isAligned
 returns c = simp (not-true (c .before .starts-on-unit .result) (c .if1 .taken), ← (c .before .starts-on-unit .ensures), ← (c .before .before .map-address .ensures))
 
--- src/lib.rt:77:51
 cast-map-address : tie.Need-cast-map-address
 cast-map-address c = search needs
 
--- src/lib.rt:77:40
 add-map-address : tie.Need-add-map-address
 add-map-address c = search needs
 
--- src/lib.rt:77:40
 sub-map-address : tie.Need-sub-map-address
 sub-map-address c = search needs
 
--- src/lib.rt:77:9
 map-address-requires-2 : tie.Need-map-address-requires-2
 map-address-requires-2 c κs = search needs
 
--- src/lib.rt:78:5
 ends-on-unit-requires : tie.Need-ends-on-unit-requires
 ends-on-unit-requires c κs = mapped-kept _ _ _ (omega arith) (omega arith) _ (c .map-address2 .ensures)
 
--- src/lib.rt:66:1
 returns-2 : tie.Need-returns-2
 unfolding Rattle.rules.specs.Admission.isAligned
 returns-2 c = simp (← (c .ends-on-unit .ensures), ← (c .before .map-address2 .ensures), not-false (c .before .before .before .before .starts-on-unit .result) (c .before .before .before .if1 .left), ← (c .before .before .before .before .starts-on-unit .ensures), ← (c .before .before .before .before .before .map-address .ensures))

@@ -22,15 +22,12 @@ Inv-loop plan area n task device x₀ x = (x ≤ task .length) × (furtherSpans 
 abbrev μ-loop : tie.MeasureT-loop
 μ-loop plan area n task device x₀ x = n - x
 
--- src/lib.rt:135:9
 lock-task-requires : tie.Need-lock-task-requires Inv-loop μ-loop
 lock-task-requires c κs = search needs
 
--- src/lib.rt:136:9
 segment-at-requires : tie.Need-segment-at-requires Inv-loop μ-loop
 segment-at-requires c κs = search needs
 
--- src/lib.rt:139:5
 loop-holds : tie.Need-loop-holds Inv-loop μ-loop
 loop-holds c =
     let a = c .before .before .args in
@@ -44,15 +41,12 @@ loop-holds c =
     let l = ap (λ (s : Segment). s .length) (c .segment-at .ensures) in
     (omega (arith, l, first .1), refl)
 
--- src/lib.rt:140:49
 cast-segment-at : tie.Need-cast-segment-at Inv-loop μ-loop
 cast-segment-at c = search needs
 
--- src/lib.rt:140:13
 segment-at-requires-2 : tie.Need-segment-at-requires-2 Inv-loop μ-loop
 segment-at-requires-2 c κs = search needs
 
--- src/lib.rt:142:13
 returns : tie.Need-returns Inv-loop μ-loop
 returns c =
     let a = c .before .before .before .before .before .before .before .args in
@@ -68,7 +62,6 @@ returns c =
     (λ q. c .if1 .taken (ap (λ (s : Segment). s .device) (c .before .before .segment-at2 .ensures) ∙ q)) in
     one-device-no (a .plan) (a .area) t lock inside _ _ e (omega (arith, more, c .before .before .before .before .loop .inv .1, k))
 
--- src/lib.rt:144:9
 add-x : tie.Need-add-x Inv-loop μ-loop
 add-x c =
     let a = c .before .before .before .before .before .before .before .before .args in
@@ -82,7 +75,6 @@ add-x c =
     let l = ap (λ (s : Segment). s .length) (c .before .before .before .segment-at2 .ensures) in
     omega (arith, l, part .1)
 
--- src/lib.rt:139:5
 loop-less : tie.Need-loop-less Inv-loop μ-loop
 loop-less c =
     let a = c .before .before .before .before .before .before .before .before .args in
@@ -96,7 +88,6 @@ loop-less c =
     let l = ap (λ (s : Segment). s .length) (c .before .before .before .segment-at2 .ensures) in
     omega (arith, l, part .0, c .before .before .before .before .loop-test .taken)
 
--- src/lib.rt:139:5
 loop-again : tie.Need-loop-again Inv-loop μ-loop
 loop-again c =
     let a = c .before .before .before .before .before .before .before .before .args in
@@ -112,7 +103,6 @@ loop-again c =
     (ap (λ (s : Segment). s .device) (sym (c .before .before .before .segment-at2 .ensures)) ∙ c .before .if1 .left) in
     (omega (arith, l, part .1), ap (λ (k : ℕ). furtherSpans (a .plan) (a .area) t (c .before .before .before .before .before .before .segment-at .result .device) (x + k)) l ∙ sym same ∙ c .before .before .before .before .before .loop .inv .1)
 
--- src/lib.rt:131:1
 returns-2 : tie.Need-returns-2 Inv-loop μ-loop
 returns-2 c =
     let a = c .before .before .before .before .args in

@@ -11,15 +11,12 @@ use Rattle.admission.proofs.range_device.Lts as lts
 use Rattle.admission.proofs.lock_task.Reads as lock-task-reads
 use Rattle.segment.proofs.segment_at.Reads as segment-at-reads
 
--- src/lib.rt:125:9
 lock-task-requires : tie.Need-lock-task-requires
 lock-task-requires c κs = search needs
 
--- src/lib.rt:126:9
 segment-at-requires : tie.Need-segment-at-requires
 segment-at-requires c κs = search needs
 
--- src/lib.rt:121:1
 returns : tie.Need-returns
 unfolding rangeDevice
 returns c = ap (λ (s : Segment). s .device) (c .segment-at .ensures ∙ ap (λ (t : Task). segmentAt (c .before .before .args .plan) (c .before .before .args .area) t 0) (c .before .lock-task .ensures))

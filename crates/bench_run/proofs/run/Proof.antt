@@ -7,55 +7,42 @@ use Rattle.bench_run.proofs.play_session.Reads as play-session-reads
 use Rattle.bench_run.proofs.unreadable.Reads as unreadable-reads
 use Rattle.streams.proofs.read_file.Reads as read-file-reads
 
--- src/lib.rt:214:30
 slice-aggregate-read-file : tie.Need-slice-aggregate-read-file
 slice-aggregate-read-file c = search needs
 
--- src/lib.rt:214:43
 slice-aggregate-read-file-2 : tie.Need-slice-aggregate-read-file-2
 slice-aggregate-read-file-2 c = search needs
 
--- src/lib.rt:214:11
 read-file-requires : tie.Need-read-file-requires
 read-file-requires c κs = search needs
 
--- src/lib.rt:215:25
 enum-known-n : tie.Need-enum-known-n
 enum-known-n c = search needs
 
--- src/lib.rt:215:44
 slice-aggregate-play-session : tie.Need-slice-aggregate-play-session
 slice-aggregate-play-session c = search needs
 
--- src/lib.rt:215:31
 play-session-requires : tie.Need-play-session-requires
 play-session-requires c κs = rw (c .before .before .n .given .1) at (c .before .before .before .before .before .read-file .ensures)
 
--- src/lib.rt:216:30
 enum-told : tie.Need-enum-told
 enum-told c = search needs
 
--- src/lib.rt:216:30
 unreadable-requires : tie.Need-unreadable-requires
 unreadable-requires c κs = search needs
 
--- src/lib.rt:217:32
 enum-told-2 : tie.Need-enum-told-2
 enum-told-2 c = search needs
 
--- src/lib.rt:217:32
 unreadable-requires-2 : tie.Need-unreadable-requires-2
 unreadable-requires-2 c κs = search needs
 
--- src/lib.rt:209:1
 returns : tie.Need-returns
 returns c = search needs
 
--- src/lib.rt:209:1
 returns-2 : tie.Need-returns-2
 returns-2 c = search needs
 
--- src/lib.rt:209:1
 returns-3 : tie.Need-returns-3
 returns-3 c = search needs
 

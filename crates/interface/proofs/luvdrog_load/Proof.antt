@@ -10,23 +10,18 @@ use Rattle.interface.proofs.device_views.Reads as device-views-reads
 use Rattle.manager.proofs.Manager.load.Reads as load-reads
 use Rattle.memory.proofs.Admission.number.Reads as number-reads
 
--- src/lib.rt:147:9
 load-requires : tie.Need-load-requires
 load-requires c κs = search needs
 
--- src/lib.rt:154:17
 number-requires : tie.Need-number-requires
 number-requires c κs = search needs
 
--- src/lib.rt:156:16
 area-views-requires : tie.Need-area-views-requires
 area-views-requires c κs = search needs
 
--- src/lib.rt:157:18
 device-views-requires : tie.Need-device-views-requires
 device-views-requires c κs = search needs
 
--- src/lib.rt:143:1
 returns : tie.Need-returns
 returns c =
     let l = c .before .before .before .before .before .before .before .load .ensures in

@@ -5,23 +5,18 @@ use Rattle.interface.proofs.luvdrog_session.Reads as reads
 use Rattle.interface.proofs.luvdrog_session.Lts as lts
 use Rattle.session.proofs.play_all.Reads as play-all-reads
 
--- src/lib.rt:187:9
 play-all-requires : tie.Need-play-all-requires
 play-all-requires c κs = search needs
 
--- src/lib.rt:174:1
 same-length : tie.Need-same-length
 same-length c = search needs
 
--- src/lib.rt:174:1
 same-length-2 : tie.Need-same-length-2
 same-length-2 c = search needs
 
--- src/lib.rt:174:1
 same-length-3 : tie.Need-same-length-3
 same-length-3 c = search needs
 
--- src/lib.rt:174:1
 returns : tie.Need-returns
 returns c = (c .before .before .before .before .before .before .play-all .ensures .0, (c .before .before .before .before .before .before .play-all .ensures .1 .0, (c .before .before .before .before .before .before .play-all .ensures .1 .1 .0, c .before .before .before .before .before .before .play-all .ensures .1 .1 .1 .0)))
 

@@ -1,4 +1,4 @@
-use mathlib.Core.Path.{sym, ap, _∙_}
+use mathlib.Core.Path.{sym, _∙_}
 use Rattle.jobs.specs.JobLaws.{differs-cancelled, differs-ends}
 use borrow.Author.Needs.{needs}
 use Rattle.jobs.proofs.job_differs.Statement.{statement}
@@ -8,23 +8,18 @@ use Rattle.jobs.proofs.job_differs.Lts as lts
 use Rattle.jobs.proofs.ended.Reads as ended-reads
 use Rattle.jobs.proofs.is_cancelling.Reads as is-cancelling-reads
 
--- src/jobs.rt:122:8
 is-cancelling-requires : tie.Need-is-cancelling-requires
 is-cancelling-requires c κs = search needs
 
--- src/jobs.rt:123:9
 ended-requires : tie.Need-ended-requires
 ended-requires c κs = search needs
 
--- src/jobs.rt:123:9
 returns : tie.Need-returns
 returns c = c .ended .ensures ∙ differs-cancelled _ (sym (c .before .before .is-cancelling .ensures) ∙ c .before .if1 .taken)
 
--- src/jobs.rt:125:5
 ended-requires-2 : tie.Need-ended-requires-2
 ended-requires-2 c κs = search needs
 
--- src/jobs.rt:119:1
 returns-2 : tie.Need-returns-2
 returns-2 c = c .ended2 .ensures ∙ differs-ends _ (sym (c .before .before .is-cancelling .ensures) ∙ c .before .if1 .left)
 

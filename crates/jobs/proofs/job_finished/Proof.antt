@@ -10,39 +10,30 @@ use Rattle.jobs.proofs.ended.Reads as ended-reads
 use Rattle.jobs.proofs.is_cancelling.Reads as is-cancelling-reads
 use Rattle.jobs.proofs.moved.Reads as moved-reads
 
--- src/jobs.rt:132:8
 is-cancelling-requires : tie.Need-is-cancelling-requires
 is-cancelling-requires c κs = search needs
 
--- src/jobs.rt:133:13
 moved-requires : tie.Need-moved-requires
 moved-requires c κs = search needs
 
--- src/jobs.rt:134:9
 ended-requires : tie.Need-ended-requires
 ended-requires c κs = search needs
 
--- src/jobs.rt:134:9
 returns : tie.Need-returns
 returns c = c .ended .ensures ∙ ap (ended 3) (c .before .moved .ensures) ∙ finished-cancelled (c .before .before .before .before .args .job) (sym (c .before .before .before .is-cancelling .ensures) ∙ c .before .before .if1 .taken) (c .before .before .before .before .args .upto) (c .before .before .before .before .args .retries)
 
--- src/jobs.rt:137:13
 moved-requires-2 : tie.Need-moved-requires-2
 moved-requires-2 c κs = search needs
 
--- src/jobs.rt:138:9
 ended-requires-2 : tie.Need-ended-requires-2
 ended-requires-2 c κs = search needs
 
--- src/jobs.rt:138:9
 returns-2 : tie.Need-returns-2
 returns-2 c = c .ended2 .ensures ∙ ap (ended 0) (c .before .moved2 .ensures) ∙ finished-last (c .before .before .before .before .before .before .args .job) (sym (c .before .before .before .before .before .is-cancelling .ensures) ∙ c .before .before .before .before .if1 .left) (c .before .before .before .before .before .before .args .upto) (c .before .before .before .before .before .before .args .retries) (c .before .before .if2 .taken)
 
--- src/jobs.rt:140:5
 moved-requires-3 : tie.Need-moved-requires-3
 moved-requires-3 c κs = search needs
 
--- src/jobs.rt:129:1
 returns-3 : tie.Need-returns-3
 returns-3 c = c .moved3 .ensures ∙ finished-more (c .before .before .before .before .before .args .job) (sym (c .before .before .before .before .is-cancelling .ensures) ∙ c .before .before .before .if1 .left) (c .before .before .before .before .before .args .upto) (c .before .before .before .before .before .args .retries) (c .before .if2 .left)
 

@@ -7,15 +7,12 @@ use Rattle.lines.proofs.answer_for.Reads as reads
 use Rattle.lines.proofs.answer_for.Lts as lts
 use Rattle.lines.proofs.next_answer.Reads as next-answer-reads
 
--- src/lib.rt:232:9
 next-answer-requires : tie.Need-next-answer-requires
 next-answer-requires c κs = search needs
 
--- src/lib.rt:232:9
 returns : tie.Need-returns
 returns c = answer-for (c .before .before .before .args .devices) (c .before .before .before .args .device) (fieldsFrom (c .before .before .before .args .line .now) (c .before .before .before .args .at)) (c .before .if1 .taken) _ _ (c .next-answer .ensures)
 
--- src/lib.rt:228:1
 returns-2 : tie.Need-returns-2
 returns-2 c = answer-beyond (c .before .before .args .devices) (c .before .before .args .device) (fieldsFrom (c .before .before .args .line .now) (c .before .before .args .at)) (c .if1 .left)
 

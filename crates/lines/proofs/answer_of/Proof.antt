@@ -7,33 +7,26 @@ use Rattle.lines.proofs.failed_after.Reads as failed-after-reads
 use Rattle.lines.proofs.is_letter.Reads as is-letter-reads
 use Rattle.lines.proofs.number_of.Reads as number-of-reads
 
--- src/lib.rt:194:8
 is-letter-requires : tie.Need-is-letter-requires
 is-letter-requires c κs = search needs
 
--- src/lib.rt:195:9
 returns : tie.Need-returns
 unfolding Rattle.lines.specs.Lines.answerOf
 returns c = simp (c .if1 .taken, ← (c .before .is-letter .ensures))
 
--- src/lib.rt:197:8
 is-letter-requires-2 : tie.Need-is-letter-requires-2
 is-letter-requires-2 c κs = search needs
 
--- src/lib.rt:198:9
 returns-2 : tie.Need-returns-2
 unfolding Rattle.lines.specs.Lines.answerOf
 returns-2 c = simp (c .if2 .taken, ← (c .before .is-letter2 .ensures), c .before .before .if1 .left, ← (c .before .before .before .is-letter .ensures))
 
--- src/lib.rt:200:9
 number-of-requires : tie.Need-number-of-requires
 number-of-requires c κs = search needs
 
--- src/lib.rt:201:5
 failed-after-requires : tie.Need-failed-after-requires
 failed-after-requires c κs = search needs
 
--- src/lib.rt:191:1
 returns-3 : tie.Need-returns-3
 unfolding Rattle.lines.specs.Lines.answerOf
 returns-3 c = simp (← (c .failed-after .ensures), ← (c .before .number-of .ensures), c .before .before .if2 .left, ← (c .before .before .before .is-letter2 .ensures), c .before .before .before .before .if1 .left, ← (c .before .before .before .before .before .is-letter .ensures))

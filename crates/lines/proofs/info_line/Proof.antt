@@ -4,19 +4,15 @@ use Rattle.lines.proofs.info_line.Tie as tie
 use Rattle.lines.proofs.info_line.Reads as reads
 use Rattle.lines.proofs.info_line.Lts as lts
 
--- src/lib.rt:364:29
 enum-told : tie.Need-enum-told
 enum-told c = search needs
 
--- src/lib.rt:365:23
 enum-known-area : tie.Need-enum-known-area
 enum-known-area c = search needs
 
--- src/lib.rt:360:1
 returns : tie.Need-returns
 returns c = search needs
 
--- src/lib.rt:360:1
 returns-2 : tie.Need-returns-2
 returns-2 c = simp (c .before .area .given .1)
 

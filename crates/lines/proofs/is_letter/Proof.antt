@@ -5,15 +5,12 @@ use Rattle.lines.proofs.is_letter.Tie as tie
 use Rattle.lines.proofs.is_letter.Reads as reads
 use Rattle.lines.proofs.is_letter.Lts as lts
 
--- src/lib.rt:177:9
 returns : tie.Need-returns
 returns c = simp (ne-eqb _ _ (c .if1 .taken))
 
--- src/lib.rt:179:5
 shared-slice-read-result : tie.Need-shared-slice-read-result
 shared-slice-read-result c = search needs
 
--- src/lib.rt:173:1
 returns-2 : tie.Need-returns-2
 returns-2 c = simp (eq-eqb _ _ (c .before .if1 .left))
 

@@ -5,23 +5,18 @@ use Rattle.lines.proofs.job_line.Reads as reads
 use Rattle.lines.proofs.job_line.Lts as lts
 use Rattle.lines.proofs.job_in.Reads as job-in-reads
 
--- src/lib.rt:334:35
 enum-told : tie.Need-enum-told
 enum-told c = search needs
 
--- src/lib.rt:335:26
 enum-known-target : tie.Need-enum-known-target
 enum-known-target c = search needs
 
--- src/lib.rt:335:37
 job-in-requires : tie.Need-job-in-requires
 job-in-requires c κs = search needs
 
--- src/lib.rt:330:1
 returns : tie.Need-returns
 returns c = search needs
 
--- src/lib.rt:330:1
 returns-2 : tie.Need-returns-2
 returns-2 c = simp (← (c .job-in .ensures), c .before .before .target .given .1)
 

@@ -4,37 +4,30 @@ use Rattle.lines.proofs.kind_of.Tie as tie
 use Rattle.lines.proofs.kind_of.Reads as reads
 use Rattle.lines.proofs.kind_of.Lts as lts
 
--- src/lib.rt:293:9
 returns : tie.Need-returns
 unfolding Rattle.lines.specs.Lines.kindOf
 returns c = simp (eq-eqb _ _ (c .if1 .taken))
 
--- src/lib.rt:296:9
 returns-2 : tie.Need-returns-2
 unfolding Rattle.lines.specs.Lines.kindOf
 returns-2 c = simp (eq-eqb _ _ (c .if2 .taken), ne-eqb _ _ (c .before .if1 .left))
 
--- src/lib.rt:299:9
 returns-3 : tie.Need-returns-3
 unfolding Rattle.lines.specs.Lines.kindOf
 returns-3 c = simp (eq-eqb _ _ (c .if3 .taken), ne-eqb _ _ (c .before .if2 .left), ne-eqb _ _ (c .before .before .if1 .left))
 
--- src/lib.rt:302:9
 returns-4 : tie.Need-returns-4
 unfolding Rattle.lines.specs.Lines.kindOf
 returns-4 c = simp (eq-eqb _ _ (c .if4 .taken), ne-eqb _ _ (c .before .if3 .left), ne-eqb _ _ (c .before .before .if2 .left), ne-eqb _ _ (c .before .before .before .if1 .left))
 
--- src/lib.rt:305:9
 returns-5 : tie.Need-returns-5
 unfolding Rattle.lines.specs.Lines.kindOf
 returns-5 c = simp (eq-eqb _ _ (c .if5 .taken), ne-eqb _ _ (c .before .if4 .left), ne-eqb _ _ (c .before .before .if3 .left), ne-eqb _ _ (c .before .before .before .if2 .left), ne-eqb _ _ (c .before .before .before .before .if1 .left))
 
--- src/lib.rt:308:9
 returns-6 : tie.Need-returns-6
 unfolding Rattle.lines.specs.Lines.kindOf
 returns-6 c = simp (eq-eqb _ _ (c .if6 .taken), ne-eqb _ _ (c .before .if5 .left), ne-eqb _ _ (c .before .before .if4 .left), ne-eqb _ _ (c .before .before .before .if3 .left), ne-eqb _ _ (c .before .before .before .before .if2 .left), ne-eqb _ _ (c .before .before .before .before .before .if1 .left))
 
--- src/lib.rt:289:1
 returns-7 : tie.Need-returns-7
 unfolding Rattle.lines.specs.Lines.kindOf
 returns-7 c = simp (ne-eqb _ _ (c .if6 .left), ne-eqb _ _ (c .before .if5 .left), ne-eqb _ _ (c .before .before .if4 .left), ne-eqb _ _ (c .before .before .before .if3 .left), ne-eqb _ _ (c .before .before .before .before .if2 .left), ne-eqb _ _ (c .before .before .before .before .before .if1 .left))

@@ -8,33 +8,26 @@ use Rattle.lines.proofs.line_of.Lts as lts
 use Rattle.lines.proofs.line_of_type.Reads as line-of-type-reads
 use Rattle.lines.proofs.next_number.Reads as next-number-reads
 
--- src/lib.rt:394:9
 returns : tie.Need-returns
 unfolding Rattle.lines.specs.Lines.lineOf
 returns c = simp (lt-ltb _ _ (c .if1 .taken))
 
--- src/lib.rt:396:9
 next-number-requires : tie.Need-next-number-requires
 next-number-requires c κs = search needs
 
--- src/lib.rt:399:29
 enum-told : tie.Need-enum-told
 enum-told c = search needs
 
--- src/lib.rt:400:23
 enum-known-number : tie.Need-enum-known-number
 enum-known-number c = search needs
 
--- src/lib.rt:400:32
 line-of-type-requires : tie.Need-line-of-type-requires
 line-of-type-requires c κs = search needs
 
--- src/lib.rt:390:1
 returns-2 : tie.Need-returns-2
 unfolding Rattle.lines.specs.Lines.lineOf
 returns-2 c = line-no-type _ _ (c .before .before .before .if1 .left) _ (c .before .before .next-number .ensures .0) (c .enum-told .given .1)
 
--- src/lib.rt:390:1
 returns-3 : tie.Need-returns-3
 unfolding Rattle.lines.specs.Lines.lineOf
 returns-3 c = line-typed _ _ (c .before .before .before .before .before .if1 .left) _ (c .before .before .before .before .next-number .ensures .0) _ (c .before .before .number .given .1) _ (c .before .before .before .before .next-number .ensures .1) _ (c .line-of-type .ensures)

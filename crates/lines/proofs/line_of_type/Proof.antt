@@ -13,63 +13,48 @@ use Rattle.lines.proofs.release_line.Reads as release-line-reads
 use Rattle.lines.proofs.round_line.Reads as round-line-reads
 use Rattle.lines.proofs.target_from.Reads as target-from-reads
 
--- src/lib.rt:374:9
 round-line-requires : tie.Need-round-line-requires
 round-line-requires c κs = search needs
 
--- src/lib.rt:374:9
 returns : tie.Need-returns
 returns c = simp (← (c .round-line .ensures), eq-eqb _ _ (c .before .if1 .taken))
 
--- src/lib.rt:377:29
 target-from-requires : tie.Need-target-from-requires
 target-from-requires c κs = search needs
 
--- src/lib.rt:377:9
 release-line-requires : tie.Need-release-line-requires
 release-line-requires c κs = search needs
 
--- src/lib.rt:377:9
 returns-2 : tie.Need-returns-2
 returns-2 c = simp (← (c .release-line .ensures), ← (c .before .target-from .ensures), eq-eqb _ _ (c .before .before .if2 .taken), ne-eqb _ _ (c .before .before .before .if1 .left))
 
--- src/lib.rt:380:28
 only-number-requires : tie.Need-only-number-requires
 only-number-requires c κs = search needs
 
--- src/lib.rt:380:9
 cancel-line-requires : tie.Need-cancel-line-requires
 cancel-line-requires c κs = search needs
 
--- src/lib.rt:380:9
 returns-3 : tie.Need-returns-3
 returns-3 c = simp (← (c .cancel-line .ensures), ← (c .before .only-number .ensures), eq-eqb _ _ (c .before .before .if3 .taken), ne-eqb _ _ (c .before .before .before .if2 .left), ne-eqb _ _ (c .before .before .before .before .if1 .left))
 
--- src/lib.rt:383:26
 only-number-requires-2 : tie.Need-only-number-requires-2
 only-number-requires-2 c κs = search needs
 
--- src/lib.rt:383:9
 info-line-requires : tie.Need-info-line-requires
 info-line-requires c κs = search needs
 
--- src/lib.rt:383:9
 returns-4 : tie.Need-returns-4
 returns-4 c = simp (← (c .info-line .ensures), ← (c .before .only-number2 .ensures), eq-eqb _ _ (c .before .before .if4 .taken), ne-eqb _ _ (c .before .before .before .if3 .left), ne-eqb _ _ (c .before .before .before .before .if2 .left), ne-eqb _ _ (c .before .before .before .before .before .if1 .left))
 
--- src/lib.rt:385:9
 kind-of-requires : tie.Need-kind-of-requires
 kind-of-requires c κs = search needs
 
--- src/lib.rt:386:19
 target-from-requires-2 : tie.Need-target-from-requires-2
 target-from-requires-2 c κs = search needs
 
--- src/lib.rt:386:5
 job-line-requires : tie.Need-job-line-requires
 job-line-requires c κs = search needs
 
--- src/lib.rt:370:1
 returns-5 : tie.Need-returns-5
 returns-5 c = simp (← (c .job-line .ensures), ← (c .before .target-from2 .ensures), ← (c .before .before .kind-of .ensures), ne-eqb _ _ (c .before .before .before .if4 .left), ne-eqb _ _ (c .before .before .before .before .if3 .left), ne-eqb _ _ (c .before .before .before .before .before .if2 .left), ne-eqb _ _ (c .before .before .before .before .before .before .if1 .left))
 

@@ -7,35 +7,27 @@ use Rattle.lines.proofs.next_answer.Lts as lts
 use Rattle.lines.proofs.answer_of.Reads as answer-of-reads
 use Rattle.lines.proofs.part_end.Reads as part-end-reads
 
--- src/lib.rt:214:9
 returns : tie.Need-returns
 returns c = answer-past (c .before .before .args .line .now) (c .before .before .args .at) (c .if1 .taken)
 
--- src/lib.rt:219:9
 part-end-requires : tie.Need-part-end-requires
 part-end-requires c κs = search needs
 
--- src/lib.rt:220:28
 sub-answer-of : tie.Need-sub-answer-of
 sub-answer-of c = search needs
 
--- src/lib.rt:220:28
 part-answer-of-start : tie.Need-part-answer-of-start
 part-answer-of-start c = search needs
 
--- src/lib.rt:220:28
 part-answer-of-end : tie.Need-part-answer-of-end
 part-answer-of-end c = search needs
 
--- src/lib.rt:220:9
 answer-of-requires : tie.Need-answer-of-requires
 answer-of-requires c κs = search needs
 
--- src/lib.rt:223:15
 add-t5 : tie.Need-add-t5
 add-t5 c = search needs
 
--- src/lib.rt:210:1
 returns-2 : tie.Need-returns-2
 returns-2 c = answer-here _ _ _ (c .before .before .part-end .ensures .2) _ (c .answer-of .ensures)
 

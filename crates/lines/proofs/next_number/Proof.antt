@@ -7,35 +7,27 @@ use Rattle.lines.proofs.next_number.Lts as lts
 use Rattle.lines.proofs.part_end.Reads as part-end-reads
 use Rattle.lines.proofs.number_of.Reads as number-of-reads
 
--- src/lib.rt:116:9
 returns : tie.Need-returns
 returns c = number-past (c .before .before .args .line .now) (c .before .before .args .at) (c .if1 .taken)
 
--- src/lib.rt:121:9
 part-end-requires : tie.Need-part-end-requires
 part-end-requires c κs = search needs
 
--- src/lib.rt:122:28
 sub-number-of : tie.Need-sub-number-of
 sub-number-of c = search needs
 
--- src/lib.rt:122:28
 part-number-of-start : tie.Need-part-number-of-start
 part-number-of-start c = search needs
 
--- src/lib.rt:122:28
 part-number-of-end : tie.Need-part-number-of-end
 part-number-of-end c = search needs
 
--- src/lib.rt:122:9
 number-of-requires : tie.Need-number-of-requires
 number-of-requires c κs = search needs
 
--- src/lib.rt:125:15
 add-t5 : tie.Need-add-t5
 add-t5 c = search needs
 
--- src/lib.rt:112:1
 returns-2 : tie.Need-returns-2
 returns-2 c = number-here _ _ _ (c .before .before .part-end .ensures .2) _ (c .number-of .ensures)
 

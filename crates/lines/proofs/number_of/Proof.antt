@@ -19,67 +19,52 @@ Inv-loop text value₀ i₀ value i = (i ≤ length text) × (every (digitAt tex
 abbrev μ-loop : tie.MeasureT-loop
 μ-loop text value₀ i₀ value i = length text - i
 
--- src/lib.rt:25:5
 loop-holds : tie.Need-loop-holds Inv-loop μ-loop
 unfolding every valueOf
 loop-holds c = (omega arith, refl, refl, omega arith)
 
--- src/lib.rt:26:20
 shared-slice-read-byte : tie.Need-shared-slice-read-byte Inv-loop μ-loop
 shared-slice-read-byte c = search needs
 
--- src/lib.rt:28:13
 returns : tie.Need-returns Inv-loop μ-loop
 returns c = sym (number-low (c .before .before .before .before .before .args .text .now) (c .before .before .before .loop .i) (omega arith) (omega arith))
 
--- src/lib.rt:31:13
 returns-2 : tie.Need-returns-2 Inv-loop μ-loop
 returns-2 c = sym (number-high (c .before .before .before .before .before .before .args .text .now) (c .before .before .before .before .loop .i) (omega arith) (omega arith) (omega arith))
 
--- src/lib.rt:33:17
 mul-value : tie.Need-mul-value Inv-loop μ-loop
 mul-value c = search needs
 
--- src/lib.rt:33:31
 wide-requires : tie.Need-wide-requires Inv-loop μ-loop
 wide-requires c κs = search needs
 
--- src/lib.rt:33:31
 sub-value : tie.Need-sub-value Inv-loop μ-loop
 sub-value c = search needs
 
--- src/lib.rt:33:17
 add-value : tie.Need-add-value Inv-loop μ-loop
 add-value c = search needs
 
--- src/lib.rt:35:13
 returns-3 : tie.Need-returns-3 Inv-loop μ-loop
 returns-3 c = sym (number-over (c .before .before .before .before .before .before .before .before .args .text .now) (c .before .before .before .before .before .before .loop .i + 1) (omega arith) (omega (arith, value-more (c .before .before .before .before .before .before .before .before .args .text .now) (c .before .before .before .before .before .before .loop .i))))
 
--- src/lib.rt:37:9
 add-i : tie.Need-add-i Inv-loop μ-loop
 add-i c = search needs
 
--- src/lib.rt:25:5
 loop-less : tie.Need-loop-less Inv-loop μ-loop
 loop-less c = search needs
 
--- src/lib.rt:25:5
 loop-again : tie.Need-loop-again Inv-loop μ-loop
 loop-again c = let text = c .before .before .before .before .before .before .before .before .args .text .now in
     let i = c .before .before .before .before .before .before .loop .i in
     let more = value-more text i in
     (omega arith, every-more (digitAt text) i (c .before .before .before .before .before .before .loop .inv .1) (digit-at text i (omega arith) (omega arith)), omega arith, omega arith)
 
--- src/lib.rt:40:9
 returns-4 : tie.Need-returns-4 Inv-loop μ-loop
 returns-4 c = sym (number-empty (c .before .before .before .before .args .text .now) (omega arith))
 
--- src/lib.rt:42:19
 cast-t13 : tie.Need-cast-t13 Inv-loop μ-loop
 cast-t13 c = search needs
 
--- src/lib.rt:20:1
 returns-5 : tie.Need-returns-5 Inv-loop μ-loop
 returns-5 c = let l = c .before .before .loop in ap Value (l .inv .2) ∙ sym (number-is (c .before .before .before .before .args .text .now) (l .i) (omega arith) (omega arith) (l .inv .1) (omega arith))
 

@@ -8,15 +8,12 @@ use Rattle.lines.proofs.only_number.Reads as reads
 use Rattle.lines.proofs.only_number.Lts as lts
 use Rattle.lines.proofs.next_number.Reads as next-number-reads
 
--- src/lib.rt:132:9
 next-number-requires : tie.Need-next-number-requires
 next-number-requires c κs = search needs
 
--- src/lib.rt:134:9
 returns : tie.Need-returns
 returns c = only-many (fieldsFrom (c .before .before .before .before .args .line .now) (c .before .before .before .before .args .at)) _ (c .before .before .next-number .ensures .1) (more-fields 32 (c .before .before .before .before .args .line .now) _ (c .if1 .taken))
 
--- src/lib.rt:129:1
 returns-2 : tie.Need-returns-2
 returns-2 c = only-here (fieldsFrom (c .before .before .before .before .args .line .now) (c .before .before .before .before .args .at)) _ (c .before .before .next-number .ensures .1) (no-fields 32 (c .before .before .before .before .args .line .now) _ (c .if1 .left)) _ (c .before .before .next-number .ensures .0)
 

@@ -15,31 +15,24 @@ Inv-loop bytes mark from i₀ i = (from ≤ i) × (i ≤ length bytes) × (cutFr
 abbrev μ-loop : tie.MeasureT-loop
 μ-loop bytes mark from i₀ i = length bytes - i
 
--- src/lib.rt:97:5
 loop-holds : tie.Need-loop-holds Inv-loop μ-loop
 loop-holds c = (omega arith, omega arith, word-none (c .args .mark) (c .args .bytes .now) (c .args .from) (omega arith))
 
--- src/lib.rt:98:12
 shared-slice-read-if1 : tie.Need-shared-slice-read-if1 Inv-loop μ-loop
 shared-slice-read-if1 c = search needs
 
--- src/lib.rt:99:13
 returns : tie.Need-returns Inv-loop μ-loop
 returns c = let a = c .before .before .before .before .args in let l = c .before .before .before .loop in (omega arith, omega arith, field-space (a .mark) (a .bytes .now) (a .from) (l .i) (omega arith) (omega arith) (l .inv .2))
 
--- src/lib.rt:101:9
 add-i : tie.Need-add-i Inv-loop μ-loop
 add-i c = search needs
 
--- src/lib.rt:97:5
 loop-less : tie.Need-loop-less Inv-loop μ-loop
 loop-less c = search needs
 
--- src/lib.rt:97:5
 loop-again : tie.Need-loop-again Inv-loop μ-loop
 loop-again c = let a = c .before .before .before .before .args in let l = c .before .before .before .loop in (omega arith, omega arith, field-more (a .mark) (a .bytes .now) (a .from) (l .i) (omega arith) (omega arith) (c .if1 .left) (l .inv .2))
 
--- src/lib.rt:92:1
 returns-2 : tie.Need-returns-2 Inv-loop μ-loop
 returns-2 c = let a = c .before .before .args in let l = c .before .loop in (omega arith, omega arith, field-last (a .mark) (a .bytes .now) (a .from) (l .i) (omega arith) (l .inv .2))
 

@@ -4,19 +4,15 @@ use Rattle.lines.proofs.release_line.Tie as tie
 use Rattle.lines.proofs.release_line.Reads as reads
 use Rattle.lines.proofs.release_line.Lts as lts
 
--- src/lib.rt:343:35
 enum-told : tie.Need-enum-told
 enum-told c = search needs
 
--- src/lib.rt:344:26
 enum-known-target : tie.Need-enum-known-target
 enum-known-target c = search needs
 
--- src/lib.rt:339:1
 returns : tie.Need-returns
 returns c = search needs
 
--- src/lib.rt:339:1
 returns-2 : tie.Need-returns-2
 returns-2 c = simp (c .before .target .given .1)
 

@@ -4,55 +4,42 @@ use Rattle.lines.proofs.round_in.Tie as tie
 use Rattle.lines.proofs.round_in.Reads as reads
 use Rattle.lines.proofs.round_in.Lts as lts
 
--- src/lib.rt:243:28
 enum-known-first : tie.Need-enum-known-first
 enum-known-first c = search needs
 
--- src/lib.rt:244:9
 enum-told : tie.Need-enum-told
 enum-told c = search needs
 
--- src/lib.rt:244:9
 returns : tie.Need-returns
 returns c = search needs
 
--- src/lib.rt:246:28
 enum-known-second : tie.Need-enum-known-second
 enum-known-second c = search needs
 
--- src/lib.rt:247:9
 enum-told-2 : tie.Need-enum-told-2
 enum-told-2 c = search needs
 
--- src/lib.rt:247:9
 returns-2 : tie.Need-returns-2
 returns-2 c = search needs
 
--- src/lib.rt:249:28
 enum-known-third : tie.Need-enum-known-third
 enum-known-third c = search needs
 
--- src/lib.rt:250:9
 enum-told-3 : tie.Need-enum-told-3
 enum-told-3 c = search needs
 
--- src/lib.rt:250:9
 returns-3 : tie.Need-returns-3
 returns-3 c = search needs
 
--- src/lib.rt:252:28
 enum-known-fourth : tie.Need-enum-known-fourth
 enum-known-fourth c = search needs
 
--- src/lib.rt:253:9
 enum-told-4 : tie.Need-enum-told-4
 enum-told-4 c = search needs
 
--- src/lib.rt:253:9
 returns-4 : tie.Need-returns-4
 returns-4 c = search needs
 
--- src/lib.rt:240:1
 returns-5 : tie.Need-returns-5
 returns-5 c = simp (c .before .fourth .given .1, c .before .before .before .before .third .given .1, c .before .before .before .before .before .before .before .second .given .1, c .before .before .before .before .before .before .before .before .before .before .first .given .1)
 

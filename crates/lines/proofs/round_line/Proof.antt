@@ -6,16 +6,13 @@ use Rattle.lines.proofs.round_line.Reads as reads
 use Rattle.lines.proofs.round_line.Lts as lts
 use Rattle.lines.proofs.answers_of.Reads as answers-of-reads
 
--- src/lib.rt:284:9
 returns : tie.Need-returns
 unfolding Rattle.lines.specs.Lines.roundLine
 returns c = simp (lt-ltb _ _ (c .if1 .taken))
 
--- src/lib.rt:286:5
 answers-of-requires : tie.Need-answers-of-requires
 answers-of-requires c κs = search needs
 
--- src/lib.rt:280:1
 returns-2 : tie.Need-returns-2
 unfolding Rattle.lines.specs.Lines.roundLine
 returns-2 c = simp (← (c .answers-of .ensures), le-ltb _ _ (c .before .if1 .left))

@@ -6,15 +6,12 @@ use Rattle.manager.proofs.no_job_info.Lts as lts
 use Rattle.machine.proofs.queries.no_request.Reads as no-request-reads
 use Rattle.state.proofs.Area.fresh.Reads as fresh-reads
 
--- src/lib.rt:87:9
 fresh-requires : tie.Need-fresh-requires
 fresh-requires c κs = search needs
 
--- src/lib.rt:91:9
 no-request-requires : tie.Need-no-request-requires
 no-request-requires c κs = search needs
 
--- src/lib.rt:84:1
 returns : tie.Need-returns
 returns c = rw (c .before .before .before .before .fresh .ensures, c .no-request .ensures)
 

@@ -13,43 +13,33 @@ use Rattle.requests.proofs.taken_due.Reads as taken-due-reads
 use Rattle.requests.proofs.taken_job.Reads as taken-job-reads
 use Rattle.requests.proofs.taken_state.Reads as taken-state-reads
 
--- src/lib.rt:145:35
 cast-place : tie.Need-cast-place
 cast-place c = search needs
 
--- src/lib.rt:145:17
 add-place : tie.Need-add-place
 add-place c = search needs
 
--- src/lib.rt:147:9
 take-effect-requires : tie.Need-take-effect-requires
 take-effect-requires c κs = search needs
 
--- src/lib.rt:148:9
 is-dropped-requires : tie.Need-is-dropped-requires
 is-dropped-requires c κs = search needs
 
--- src/lib.rt:149:9
 taken-job-requires : tie.Need-taken-job-requires
 taken-job-requires c κs = search needs
 
--- src/lib.rt:150:9
 taken-due-requires : tie.Need-taken-due-requires
 taken-due-requires c κs = search needs
 
--- src/lib.rt:151:9
 taken-state-requires : tie.Need-taken-state-requires
 taken-state-requires c κs = search needs
 
--- src/lib.rt:123:1
 same-length : tie.Need-same-length
 same-length c = search needs
 
--- src/lib.rt:123:1
 same-length-2 : tie.Need-same-length-2
 same-length-2 c = search needs
 
--- src/lib.rt:123:1
 returns : tie.Need-returns
 returns c = (c .before .before .taken-job .ensures ∙ (λ i. takenWith (c .before .before .before .before .before .before .before .before .before .before .before .before .before .before .before .args .due .length) (c .before .before .before .before .before .before .before .before .before .before .before .before .before .before .before .args .next .retries) (c .before .before .before .before .before .before .before .before .take-effect .ensures .0 i) (c .before .before .before .is-dropped .ensures i) (c .before .before .before .before .before .before .before .before .before .before .before .before .before .before .before .args .job)), (c .before .taken-due .ensures ∙ ap (dueWith (c .before .before .before .before .before .before .before .before .before .before .before .before .before .before .before .args .due) (c .before .before .before .before .before .before .before .before .before .before .before .before .before .before .before .args .next)) (c .before .before .before .before .before .before .before .before .take-effect .ensures .0), (c .taken-state .ensures ∙ ap (λ u. takenState (c .before .before .before .before .before .before .before .before .before .before .before .before .before .before .before .args .area) (c .before .before .before .before .before .before .before .before .before .before .before .before .before .before .before .args .polls) u (leb (c .before .before .before .before .before .before .before .before .before .before .before .before .before .before .before .args .limit) (c .before .before .before .before .before .before .before .before .before .before .before .before .before .before .before .args .polls + 1))) (c .before .before .before .before .before .before .before .before .take-effect .ensures .0), (c .before .before .before .before .before .before .before .before .take-effect .ensures .1 .0, c .before .before .before .before .before .before .before .before .take-effect .ensures .1 .1))))
 

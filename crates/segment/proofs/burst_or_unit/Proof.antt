@@ -6,29 +6,23 @@ use Rattle.segment.proofs.burst_or_unit.Reads as reads
 use Rattle.segment.proofs.burst_or_unit.Lts as lts
 use Rattle.plan.proofs.number.is_multiple.Reads as is-multiple-reads
 
--- src/lib.rt:110:17
 cast-burst : tie.Need-cast-burst
 cast-burst c = search needs
 
--- src/lib.rt:111:16
 cast-unit : tie.Need-cast-unit
 cast-unit c = search needs
 
--- src/lib.rt:112:9
 is-multiple-requires : tie.Need-is-multiple-requires
 is-multiple-requires c κs = search needs
 
--- src/lib.rt:113:9
 returns : tie.Need-returns
 unfolding Rattle.segment.specs.Segments.burstOrUnit
 returns c = simp (not-true (c .before .is-multiple .result) (c .if1 .taken), ← (c .before .is-multiple .ensures))
 
--- src/lib.rt:116:9
 returns-2 : tie.Need-returns-2
 unfolding Rattle.segment.specs.Segments.burstOrUnit
 returns-2 c = simp (lt-leb _ _ (c .if2 .taken), not-false (c .before .before .is-multiple .result) (c .before .if1 .left), ← (c .before .before .is-multiple .ensures))
 
--- src/lib.rt:107:1
 returns-3 : tie.Need-returns-3
 unfolding Rattle.segment.specs.Segments.burstOrUnit
 returns-3 c = simp (le-leb _ _ (c .if2 .left), not-false (c .before .before .is-multiple .result) (c .before .if1 .left), ← (c .before .before .is-multiple .ensures))

@@ -6,19 +6,15 @@ use Rattle.segment.proofs.locate.Reads as reads
 use Rattle.segment.proofs.locate.Lts as lts
 use Rattle.segment.proofs.find_byte.Reads as find-byte-reads
 
--- src/lib.rt:117:17
 cast-start : tie.Need-cast-start
 cast-start c = search needs
 
--- src/lib.rt:119:9
 returns : tie.Need-returns
 returns c = simp (lt-ltb _ _ (c .if1 .taken))
 
--- src/lib.rt:121:5
 find-byte-requires : tie.Need-find-byte-requires
 find-byte-requires c κs = search needs
 
--- src/lib.rt:107:1
 returns-2 : tie.Need-returns-2
 returns-2 c = simp (← (c .find-byte .ensures), le-ltb _ _ (c .before .if1 .left))
 

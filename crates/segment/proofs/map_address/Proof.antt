@@ -7,19 +7,15 @@ use Rattle.segment.proofs.map_address.Reads as reads
 use Rattle.segment.proofs.map_address.Lts as lts
 use Rattle.segment.proofs.locate.Reads as locate-reads
 
--- src/lib.rt:129:18
 mul-record : tie.Need-mul-record
 mul-record c = search needs
 
--- src/lib.rt:129:18
 element-copy-out-record : tie.Need-element-copy-out-record
 element-copy-out-record c = search needs
 
--- src/lib.rt:131:5
 locate-requires : tie.Need-locate-requires
 locate-requires c κs = search needs
 
--- src/lib.rt:125:1
 returns : tie.Need-returns
 returns c = c .locate .ensures ∙ located-mapped (c .before .before .before .before .args .t1) (c .before .before .before .before .args .area) (c .before .before .before .before .args .address)
 

@@ -7,19 +7,15 @@ use Rattle.segment.proofs.segment_at.Reads as reads
 use Rattle.segment.proofs.segment_at.Lts as lts
 use Rattle.segment.proofs.segment_from.Reads as segment-from-reads
 
--- src/lib.rt:309:17
 mul-place : tie.Need-mul-place
 mul-place c = search needs
 
--- src/lib.rt:309:17
 element-copy-out-place : tie.Need-element-copy-out-place
 element-copy-out-place c = search needs
 
--- src/lib.rt:311:5
 segment-from-requires : tie.Need-segment-from-requires
 segment-from-requires c κs = search needs
 
--- src/lib.rt:305:1
 returns : tie.Need-returns
 returns c = c .segment-from .ensures ∙ segment-from (c .before .before .before .before .args .t1) (c .before .before .before .before .args .area) (c .before .before .before .before .args .task) (c .before .before .before .before .args .processed)
 

@@ -8,35 +8,27 @@ use Rattle.segment.proofs.minus.Reads as minus-reads
 use Rattle.segment.proofs.no_segment.Reads as no-segment-reads
 use Rattle.segment.proofs.segment_in.Reads as segment-in-reads
 
--- src/lib.rt:274:27
 enum-told : tie.Need-enum-told
 enum-told c = search needs
 
--- src/lib.rt:274:27
 no-segment-requires : tie.Need-no-segment-requires
 no-segment-requires c κs = search needs
 
--- src/lib.rt:277:13
 enum-known-found : tie.Need-enum-known-found
 enum-known-found c = search needs
 
--- src/lib.rt:280:30
 cast-minus : tie.Need-cast-minus
 cast-minus c = search needs
 
--- src/lib.rt:280:17
 minus-requires : tie.Need-minus-requires
 minus-requires c κs = search needs
 
--- src/lib.rt:281:13
 segment-in-requires : tie.Need-segment-in-requires
 segment-in-requires c κs = let inside = rw (c .before .before .before .found .given .1) at (c .before .before .before .before .before .pre) in omega (arith, inside)
 
--- src/lib.rt:269:1
 returns : tie.Need-returns
 returns c = simp (← (c .no-segment .ensures), c .before .enum-told .given .1)
 
--- src/lib.rt:269:1
 returns-2 : tie.Need-returns-2
 returns-2 c = simp (← (c .segment-in .ensures), ← (c .before .minus .ensures), c .before .before .before .before .found .given .1)
 

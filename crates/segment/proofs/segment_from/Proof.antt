@@ -12,35 +12,27 @@ use Rattle.segment.proofs.index_of.Reads as index-of-reads
 use Rattle.segment.proofs.locate.Reads as locate-reads
 use Rattle.segment.proofs.segment_found.Reads as segment-found-reads
 
--- src/lib.rt:298:20
 cast-address : tie.Need-cast-address
 cast-address c = search needs
 
--- src/lib.rt:298:19
 add-address : tie.Need-add-address
 add-address c = search needs
 
--- src/lib.rt:299:9
 locate-requires : tie.Need-locate-requires
 locate-requires c κs = search needs
 
--- src/lib.rt:300:9
 index-of-requires : tie.Need-index-of-requires
 index-of-requires c κs = search needs
 
--- src/lib.rt:301:36
 mul-segment-found : tie.Need-mul-segment-found
 mul-segment-found c = let few = index-within (c .before .before .before .args .t1) (c .before .before .before .args .area) (c .before .before .before .args .count) (c .before .before .before .args .start .0) (c .before .before .before .args .task .address .0 + c .before .before .before .args .processed) (c .before .locate .result) (c .before .locate .ensures) (c .before .before .before .pre) in omega (arith, few, c .index-of .ensures)
 
--- src/lib.rt:301:36
 array-copy-out-segment-found : tie.Need-array-copy-out-segment-found
 array-copy-out-segment-found c = let few = index-within (c .before .before .before .args .t1) (c .before .before .before .args .area) (c .before .before .before .args .count) (c .before .before .before .args .start .0) (c .before .before .before .args .task .address .0 + c .before .before .before .args .processed) (c .before .locate .result) (c .before .locate .ensures) (c .before .before .before .pre) in omega (arith, few, c .index-of .ensures)
 
--- src/lib.rt:301:5
 segment-found-requires : tie.Need-segment-found-requires
 segment-found-requires c κs = rw (c .before .index-of .ensures) (offset-inside (c .before .before .before .before .args .t1) (c .before .before .before .before .args .area) (c .before .before .before .before .args .count) (c .before .before .before .before .args .start .0) (c .before .before .before .before .args .task .address .0 + c .before .before .before .before .args .processed) (c .before .before .locate .result) (c .before .before .locate .ensures))
 
--- src/lib.rt:287:1
 returns : tie.Need-returns
 returns c = simp (c .segment-found .ensures, c .before .before .index-of .ensures) (if-found (c .before .before .before .before .before .args .task .kind) (c .before .before .before .before .before .args .t1) (c .before .before .before .before .before .args .task .length - c .before .before .before .before .before .args .processed) (c .before .before .before .locate .result) ∙ ap (λ f. segmentOf (c .before .before .before .before .before .args .task .kind) (c .before .before .before .before .before .args .t1) (c .before .before .before .before .before .args .task .length - c .before .before .before .before .before .args .processed) f) (c .before .before .before .locate .ensures))
 

@@ -10,35 +10,27 @@ use Rattle.segment.proofs.least.Reads as least-reads
 use Rattle.segment.proofs.retries_of.Reads as retries-of-reads
 use Rattle.segment.proofs.segment_length.Reads as segment-length-reads
 
--- src/lib.rt:143:15
 cast-at : tie.Need-cast-at
 cast-at c = search needs
 
--- src/lib.rt:143:14
 add-at : tie.Need-add-at
 add-at c = omega (arith, product-fits {a = c .before .args .sub-area .erase .unit} {b = c .before .args .sub-area .«sector_count»} (search needs) (search needs))
 
--- src/lib.rt:144:16
 size-requires : tie.Need-size-requires
 size-requires c κs = search needs
 
--- src/lib.rt:144:16
 sub-rest : tie.Need-sub-rest
 sub-rest c = search needs
 
--- src/lib.rt:145:9
 least-requires : tie.Need-least-requires
 least-requires c κs = search needs
 
--- src/lib.rt:146:9
 segment-length-requires : tie.Need-segment-length-requires
 segment-length-requires c κs = search needs
 
--- src/lib.rt:147:9
 retries-of-requires : tie.Need-retries-of-requires
 retries-of-requires c κs = search needs
 
--- src/lib.rt:139:1
 returns : tie.Need-returns
 returns c = rw (c .retries-of .ensures, c .before .segment-length .ensures, c .before .before .least .ensures, c .before .before .before .size .ensures .0)
 

@@ -14,60 +14,47 @@ use Rattle.plan.proofs.questions.device_sum.Reads as device-sum-reads
 use Rattle.texts.proofs.number_line.Reads as number-line-reads
 use Rattle.texts.proofs.question_line.Reads as question-line-reads
 
--- src/lib.rt:34:9
 load-requires : tie.Need-load-requires
 load-requires c κs = search needs
 
--- src/lib.rt:37:13
 question-line-requires : tie.Need-question-line-requires
 question-line-requires c κs = search needs
 
--- src/lib.rt:38:9
 same-length : tie.Need-same-length
 same-length c = search needs
 
--- src/lib.rt:38:9
 returns : tie.Need-returns
 returns c = let t = text-long (c .before .before .before .before .before .before .before .before .before .args .plan .now) (c .before .before .before .before .if1 .taken) in
     (c .before .before .before .before .before .before .load .ensures .1, ((append-same t (c .before .before .question-line .ensures .0), omega arith), (image-none (c .before .before .before .before .before .before .before .before .before .args .plan .now) t (omega arith), omega arith)))
 
--- src/lib.rt:45:9
 number-requires : tie.Need-number-requires
 number-requires c κs = search needs
 
--- src/lib.rt:47:43
 cast-number-line : tie.Need-cast-number-line
 cast-number-line c = search needs
 
--- src/lib.rt:47:13
 number-line-requires : tie.Need-number-line-requires
 number-line-requires c κs = search needs
 
--- src/lib.rt:48:9
 same-length-2 : tie.Need-same-length-2
 same-length-2 c = search needs
 
--- src/lib.rt:48:9
 returns-2 : tie.Need-returns-2
 returns-2 c = let n = c .before .before .before .before .before .number .ensures ∙ c .before .before .before .before .before .before .before .before .load .ensures .0 in
     let t = text-refused (c .before .before .before .before .before .before .before .before .before .before .before .args .plan .now) (c .before .before .before .before .before .before .if1 .left) _ n (c .before .before .before .before .if2 .taken) in
     (c .before .before .before .before .before .before .before .before .load .ensures .1, ((append-same t (c .before .before .number-line .ensures .0), omega arith), (image-none (c .before .before .before .before .before .before .before .before .before .before .before .args .plan .now) t (number-some _), omega arith)))
 
--- src/lib.rt:56:9
 device-sum-requires : tie.Need-device-sum-requires
 device-sum-requires c κs = let n = c .before .before .before .number .ensures ∙ c .before .before .before .before .before .before .load .ensures .0 in
     let zero : loadNumber (c .before .before .before .before .before .before .before .before .before .args .plan .now) ≡ 0 = omega (arith, n, c .before .before .if2 .left) in
     few-devices _ _ (c .before .before .before .before .before .before .load .ensures .1) zero
 
--- src/lib.rt:58:13
 question-line-requires-2 : tie.Need-question-line-requires-2
 question-line-requires-2 c κs = search needs
 
--- src/lib.rt:59:9
 same-length-3 : tie.Need-same-length-3
 same-length-3 c = search needs
 
--- src/lib.rt:59:9
 returns-3 : tie.Need-returns-3
 returns-3 c = let n = c .before .before .before .before .before .before .before .before .before .number .ensures ∙ c .before .before .before .before .before .before .before .before .before .before .before .before .load .ensures .0 in
     let zero : loadNumber (c .before .before .before .before .before .before .before .before .before .before .before .before .before .before .before .args .plan .now) ≡ 0 = omega (arith, n, c .before .before .before .before .before .before .before .before .if2 .left) in
@@ -75,7 +62,6 @@ returns-3 c = let n = c .before .before .before .before .before .before .before 
     let t = text-sum (c .before .before .before .before .before .before .before .before .before .before .before .before .before .before .before .args .plan .now) (c .before .before .before .before .before .before .before .before .before .before .if1 .left) zero (omega (arith, s, c .before .before .before .before .if3 .taken)) in
     (c .before .before .before .before .before .before .before .before .before .before .before .before .load .ensures .1, ((append-same t (c .before .before .question-line2 .ensures .0), omega arith), (image-none (c .before .before .before .before .before .before .before .before .before .before .before .before .before .before .before .args .plan .now) t (omega arith), omega arith)))
 
--- src/lib.rt:28:1
 returns-4 : tie.Need-returns-4
 returns-4 c = let n = c .before .before .before .before .before .number .ensures ∙ c .before .before .before .before .before .before .before .before .load .ensures .0 in
     let zero : loadNumber (c .before .before .before .before .before .before .before .before .before .before .before .args .plan .now) ≡ 0 = omega (arith, n, c .before .before .before .before .if2 .left) in

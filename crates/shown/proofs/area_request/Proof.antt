@@ -10,35 +10,27 @@ use Rattle.memory.proofs.JobType.number.Reads as number-reads
 use Rattle.segment.proofs.segment_at.Reads as segment-at-reads
 use Rattle.texts.proofs.request_text.Reads as request-text-reads
 
--- src/lib.rt:25:17
 mul-entry : tie.Need-mul-entry
 mul-entry c = search needs
 
--- src/lib.rt:25:17
 array-copy-out-entry : tie.Need-array-copy-out-entry
 array-copy-out-entry c = search needs
 
--- src/lib.rt:29:9
 segment-at-requires : tie.Need-segment-at-requires
 segment-at-requires c κs = search needs
 
--- src/lib.rt:30:9
 number-requires : tie.Need-number-requires
 number-requires c κs = search needs
 
--- src/lib.rt:35:9
 cast-request-text : tie.Need-cast-request-text
 cast-request-text c = search needs
 
--- src/lib.rt:31:5
 request-text-requires : tie.Need-request-text-requires
 request-text-requires c κs = search needs
 
--- src/lib.rt:21:1
 same-length : tie.Need-same-length
 same-length c = search needs
 
--- src/lib.rt:21:1
 returns : tie.Need-returns
 returns c = (request-shown (c .before .before .before .before .before .before .before .before .before .before .args .plan) (jobIn (c .before .before .before .before .before .before .before .before .before .before .args .t4)) (c .before .before .before .before .before .before .before .before .before .before .args .area) _ _ (c .before .before .before .before .number .ensures) (c .before .before .before .before .before .segment-at .ensures) (c .before .before .request-text .ensures .0), omega arith)
 

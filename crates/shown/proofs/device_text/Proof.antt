@@ -10,51 +10,39 @@ use Rattle.shown.proofs.area_request.Reads as area-request-reads
 use Rattle.texts.proofs.free_text.Reads as free-text-reads
 use Rattle.texts.proofs.locked_text.Reads as locked-text-reads
 
--- src/lib.rt:46:40
 enum-told : tie.Need-enum-told
 enum-told c = search needs
 
--- src/lib.rt:46:30
 free-text-requires : tie.Need-free-text-requires
 free-text-requires c κs = search needs
 
--- src/lib.rt:47:50
 enum-told-2 : tie.Need-enum-told-2
 enum-told-2 c = search needs
 
--- src/lib.rt:47:38
 locked-text-requires : tie.Need-locked-text-requires
 locked-text-requires c κs = search needs
 
--- src/lib.rt:48:29
 enum-known-state : tie.Need-enum-known-state
 enum-known-state c = search needs
 
--- src/lib.rt:48:49
 area-request-requires : tie.Need-area-request-requires
 area-request-requires c κs = (omega arith, c .before .before .before .before .before .pre .1, rw (c .before .before .state .given .1) at (c .before .before .before .before .before .pre .2))
 
--- src/lib.rt:41:1
 same-length : tie.Need-same-length
 same-length c = search needs
 
--- src/lib.rt:41:1
 returns : tie.Need-returns
 returns c = (free-shown (c .before .before .before .before .before .before .before .args .plan) (jobIn (c .before .before .before .before .before .before .before .args .areas)) (c .before .before .before .before .before .before .before .args .state) (c .before .before .before .before .enum-told .given .1) (c .before .before .free-text .ensures .0), omega arith)
 
--- src/lib.rt:41:1
 same-length-2 : tie.Need-same-length-2
 same-length-2 c = search needs
 
--- src/lib.rt:41:1
 returns-2 : tie.Need-returns-2
 returns-2 c = (locked-shown (c .before .before .before .before .before .before .before .args .plan) (jobIn (c .before .before .before .before .before .before .before .args .areas)) _ (c .before .before .before .before .before .before .before .args .state) (c .before .before .before .before .enum-told2 .given .1) (c .before .before .locked-text .ensures .0), omega arith)
 
--- src/lib.rt:41:1
 same-length-3 : tie.Need-same-length-3
 same-length-3 c = search needs
 
--- src/lib.rt:41:1
 returns-3 : tie.Need-returns-3
 returns-3 c = (runs-shown (c .before .before .before .before .before .before .before .before .args .plan) (jobIn (c .before .before .before .before .before .before .before .before .args .areas)) _ _ (c .before .before .before .before .before .before .before .before .args .state) (c .before .before .before .before .before .state .given .1) (c .before .before .area-request .ensures .0), omega arith)
 

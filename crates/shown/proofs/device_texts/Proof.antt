@@ -20,40 +20,31 @@ Inv-loop out₀ at plan areas devices count end₀ d₀ out end d = (d ≤ count
 abbrev μ-loop : tie.MeasureT-loop
 μ-loop out₀ at plan areas devices count end₀ d₀ out end d = count - d
 
--- src/lib.rt:65:5
 loop-holds : tie.Need-loop-holds Inv-loop μ-loop
 loop-holds c = (omega arith, omega arith, refl, none-shown _ _ _ _)
 
--- src/lib.rt:66:22
 mul-device : tie.Need-mul-device Inv-loop μ-loop
 mul-device c = search needs
 
--- src/lib.rt:66:22
 array-copy-out-device : tie.Need-array-copy-out-device Inv-loop μ-loop
 array-copy-out-device c = search needs
 
--- src/lib.rt:68:9
 device-text-requires : tie.Need-device-text-requires Inv-loop μ-loop
 device-text-requires c κs = (omega arith, c .before .before .before .before .before .pre .1, c .before .before .before .before .before .pre .3 (c .before .before .before .loop .d) (c .before .before .loop-test .taken))
 
--- src/lib.rt:69:9
 add-d : tie.Need-add-d Inv-loop μ-loop
 add-d c = search needs
 
--- src/lib.rt:65:5
 loop-less : tie.Need-loop-less Inv-loop μ-loop
 loop-less c = search needs
 
--- src/lib.rt:65:5
 loop-again : tie.Need-loop-again Inv-loop μ-loop
 loop-again c = let l = c .before .before .before .before .before .before .loop in
     (omega arith, omega arith, c .before .before .device-text .ensures .0 .long ∙ l .inv .2, device-shown _ _ (l .d) (l .inv .3) (c .before .before .device-text .ensures .0))
 
--- src/lib.rt:52:1
 same-length : tie.Need-same-length Inv-loop μ-loop
 same-length c = search needs
 
--- src/lib.rt:52:1
 returns : tie.Need-returns Inv-loop μ-loop
 returns c = let l = c .before .loop in let a = c .before .before .before .args in (append-same (ap (λ (k : ℕ). shownTexts (shownTo (a .plan) (coreIn (a .areas) (a .t5)) k)) (omega arith)) (l .inv .3), omega arith)
 

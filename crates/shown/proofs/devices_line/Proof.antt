@@ -8,23 +8,18 @@ use Rattle.shown.proofs.devices_line.Lts as lts
 use Rattle.shown.proofs.device_texts.Reads as device-texts-reads
 use Rattle.texts.proofs.push.Reads as push-reads
 
--- src/lib.rt:85:9
 push-requires : tie.Need-push-requires
 push-requires c κs = search needs
 
--- src/lib.rt:86:9
 device-texts-requires : tie.Need-device-texts-requires
 device-texts-requires c κs = search needs
 
--- src/lib.rt:87:5
 push-requires-2 : tie.Need-push-requires-2
 push-requires-2 c κs = search needs
 
--- src/lib.rt:75:1
 same-length : tie.Need-same-length
 same-length c = search needs
 
--- src/lib.rt:75:1
 returns : tie.Need-returns
 returns c = (round-shown _ (c .before .before .before .before .before .before .before .before .before .before .push .ensures .0) (c .before .before .before .before .before .before .device-texts .ensures .0) (c .before .before .push2 .ensures .0), omega arith)
 

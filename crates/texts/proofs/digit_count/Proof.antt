@@ -17,32 +17,25 @@ Inv-loop n count₀ power₀ k₀ count power k = (k ≤ 19) × (power ≡ 10 ^ 
 abbrev μ-loop : tie.MeasureT-loop
 μ-loop n count₀ power₀ k₀ count power k = 19 - k
 
--- src/lib.rt:46:5
 loop-holds : tie.Need-loop-holds Inv-loop μ-loop
 unfolding sum
 loop-holds c = (omega arith, refl, refl, omega arith)
 
--- src/lib.rt:47:9
 mul-power : tie.Need-mul-power Inv-loop μ-loop
 mul-power c = omega (arith, power-few (c .before .loop .k) (omega arith))
 
--- src/lib.rt:48:18
 reaches-requires : tie.Need-reaches-requires Inv-loop μ-loop
 reaches-requires c κs = search needs
 
--- src/lib.rt:48:9
 add-count : tie.Need-add-count Inv-loop μ-loop
 add-count c = search needs
 
--- src/lib.rt:49:9
 add-k : tie.Need-add-k Inv-loop μ-loop
 add-k c = search needs
 
--- src/lib.rt:46:5
 loop-less : tie.Need-loop-less Inv-loop μ-loop
 loop-less c = search needs
 
--- src/lib.rt:46:5
 loop-again : tie.Need-loop-again Inv-loop μ-loop
 loop-again c = let l = c .before .before .loop in
     let n = c .before .before .before .args .n in
@@ -50,7 +43,6 @@ loop-again c = let l = c .before .before .loop in
     let r = rw p at (c .reaches .ensures .0) in
     (omega arith, p, omega (arith, count-more n (l .k)), omega arith)
 
--- src/lib.rt:40:1
 returns : tie.Need-returns Inv-loop μ-loop
 unfolding digitCount
 returns c = let l = c .before .loop in l .inv .2 ∙ ap (λ (k : ℕ). 1 + sum (λ i. reaches (10 ^ (i + 1)) (c .before .before .args .n)) k) (omega arith)

@@ -7,23 +7,18 @@ use Rattle.texts.proofs.digit_of.Reads as reads
 use Rattle.texts.proofs.digit_of.Lts as lts
 use Rattle.texts.proofs.power_of_ten.Reads as power-of-ten-reads
 
--- src/lib.rt:58:21
 power-of-ten-requires : tie.Need-power-of-ten-requires
 power-of-ten-requires c κs = search needs
 
--- src/lib.rt:58:17
 div-digit : tie.Need-div-digit
 div-digit c = omega (arith, power-some (c .before .args .k))
 
--- src/lib.rt:59:10
 cast-result : tie.Need-cast-result
 cast-result c = search needs
 
--- src/lib.rt:59:5
 add-result : tie.Need-add-result
 add-result c = search needs
 
--- src/lib.rt:54:1
 returns : tie.Need-returns
 returns c = simp (← (c .power-of-ten .ensures))
 

@@ -10,31 +10,24 @@ use Rattle.texts.proofs.push_behind.Reads as push-behind-reads
 use Rattle.texts.proofs.push_number.Reads as push-number-reads
 use Rattle.texts.proofs.push_waits.Reads as push-waits-reads
 
--- src/lib.rt:124:38
 cast-push-number : tie.Need-cast-push-number
 cast-push-number c = search needs
 
--- src/lib.rt:124:9
 push-number-requires : tie.Need-push-number-requires
 push-number-requires c κs = search needs
 
--- src/lib.rt:125:9
 push-behind-requires : tie.Need-push-behind-requires
 push-behind-requires c κs = search needs
 
--- src/lib.rt:126:9
 push-waits-requires : tie.Need-push-waits-requires
 push-waits-requires c κs = search needs
 
--- src/lib.rt:127:5
 push-requires : tie.Need-push-requires
 push-requires c κs = search needs
 
--- src/lib.rt:114:1
 same-length : tie.Need-same-length
 same-length c = search needs
 
--- src/lib.rt:114:1
 returns : tie.Need-returns
 returns c = (info-shown _ _ _ _ _ _ (c .before .before .before .before .before .before .before .before .before .before .before .before .before .before .push-number .ensures .0) (c .before .before .before .before .before .before .before .before .before .before .push-behind .ensures .0) (c .before .before .before .before .before .before .push-waits .ensures .0) (c .before .before .push .ensures .0), omega arith)
 

@@ -8,19 +8,15 @@ use Rattle.texts.proofs.number_line.Lts as lts
 use Rattle.texts.proofs.push.Reads as push-reads
 use Rattle.texts.proofs.push_number.Reads as push-number-reads
 
--- src/lib.rt:92:9
 push-number-requires : tie.Need-push-number-requires
 push-number-requires c κs = search needs
 
--- src/lib.rt:93:5
 push-requires : tie.Need-push-requires
 push-requires c κs = search needs
 
--- src/lib.rt:88:1
 same-length : tie.Need-same-length
 same-length c = search needs
 
--- src/lib.rt:88:1
 returns : tie.Need-returns
 returns c = (number-ended _ (c .before .before .before .before .before .before .push-number .ensures .0) (c .before .before .push .ensures .0), omega arith)
 

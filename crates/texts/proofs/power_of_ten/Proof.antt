@@ -14,27 +14,21 @@ Inv-loop k power₀ i₀ power i = (i ≤ k) × (power ≡ 10 ^ i)
 abbrev μ-loop : tie.MeasureT-loop
 μ-loop k power₀ i₀ power i = k - i
 
--- src/lib.rt:24:5
 loop-holds : tie.Need-loop-holds Inv-loop μ-loop
 loop-holds c = (omega arith, refl)
 
--- src/lib.rt:25:9
 mul-power : tie.Need-mul-power Inv-loop μ-loop
 mul-power c = omega (arith, power-few (c .before .loop .i) (omega arith))
 
--- src/lib.rt:26:9
 add-i : tie.Need-add-i Inv-loop μ-loop
 add-i c = search needs
 
--- src/lib.rt:24:5
 loop-less : tie.Need-loop-less Inv-loop μ-loop
 loop-less c = search needs
 
--- src/lib.rt:24:5
 loop-again : tie.Need-loop-again Inv-loop μ-loop
 loop-again c = (omega arith, omega (arith, power-more (c .before .loop .i)))
 
--- src/lib.rt:18:1
 returns : tie.Need-returns Inv-loop μ-loop
 returns c = c .before .loop .inv .1 ∙ ap (λ (k : ℕ). 10 ^ k) (omega arith)
 

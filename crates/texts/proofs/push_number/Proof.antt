@@ -20,42 +20,33 @@ Inv-loop out₀ at n left₀ end₀ out left end = (at ≤ end) × (end + left �
 abbrev μ-loop : tie.MeasureT-loop
 μ-loop out₀ at n left₀ end₀ out left end = left
 
--- src/lib.rt:67:9
 digit-count-requires : tie.Need-digit-count-requires Inv-loop μ-loop
 digit-count-requires c κs = search needs
 
--- src/lib.rt:69:5
 loop-holds : tie.Need-loop-holds Inv-loop μ-loop
 unfolding decimal
 loop-holds c = (omega arith, omega arith, refl, rw (c .digit-count .ensures))
 
--- src/lib.rt:70:9
 sub-left : tie.Need-sub-left Inv-loop μ-loop
 sub-left c = search needs
 
--- src/lib.rt:71:13
 digit-of-requires : tie.Need-digit-of-requires Inv-loop μ-loop
 digit-of-requires c κs = omega (arith, count-few (c .before .before .before .before .args .n))
 
--- src/lib.rt:72:9
 push-requires : tie.Need-push-requires Inv-loop μ-loop
 push-requires c κs = omega (arith, count-few (c .before .before .before .before .before .before .args .n))
 
--- src/lib.rt:69:5
 loop-less : tie.Need-loop-less Inv-loop μ-loop
 loop-less c = search needs
 
--- src/lib.rt:69:5
 loop-again : tie.Need-loop-again Inv-loop μ-loop
 loop-again c = let l = c .before .before .before .before .before .before .loop in
     let p = c .before .before .push .ensures in
     (omega arith, omega arith, p .0 .long ∙ l .inv .2, digits-turn (l .out) _ (l .end) _ (l .left) (c .before .before .before .before .before .before .before .before .before .args .n) _ (omega arith) (l .inv .3) (rw (c .before .before .before .before .digit-of .ensures) at (p .0)))
 
--- src/lib.rt:63:1
 same-length : tie.Need-same-length Inv-loop μ-loop
 same-length c = search needs
 
--- src/lib.rt:63:1
 returns : tie.Need-returns Inv-loop μ-loop
 returns c = let l = c .before .loop in let a = c .before .before .before .before .args in digits-done (a .out .now) (l .out) (a .at) (l .end) (l .left) (a .n) (omega arith) (l .inv .1) (l .inv .2) (l .inv .3)
 

@@ -7,43 +7,33 @@ use Rattle.texts.proofs.push_waits.Reads as reads
 use Rattle.texts.proofs.push_waits.Lts as lts
 use Rattle.texts.proofs.push_behind.Reads as push-behind-reads
 
--- src/lib.rt:108:42
 cast-push-behind : tie.Need-cast-push-behind
 cast-push-behind c = search needs
 
--- src/lib.rt:108:9
 push-behind-requires : tie.Need-push-behind-requires
 push-behind-requires c κs = search needs
 
--- src/lib.rt:109:45
 cast-push-behind-2 : tie.Need-cast-push-behind-2
 cast-push-behind-2 c = search needs
 
--- src/lib.rt:109:9
 push-behind-requires-2 : tie.Need-push-behind-requires-2
 push-behind-requires-2 c κs = search needs
 
--- src/lib.rt:110:47
 cast-push-behind-3 : tie.Need-cast-push-behind-3
 cast-push-behind-3 c = search needs
 
--- src/lib.rt:110:9
 push-behind-requires-3 : tie.Need-push-behind-requires-3
 push-behind-requires-3 c κs = search needs
 
--- src/lib.rt:111:35
 cast-push-behind-4 : tie.Need-cast-push-behind-4
 cast-push-behind-4 c = search needs
 
--- src/lib.rt:111:5
 push-behind-requires-4 : tie.Need-push-behind-requires-4
 push-behind-requires-4 c κs = search needs
 
--- src/lib.rt:104:1
 same-length : tie.Need-same-length
 same-length c = search needs
 
--- src/lib.rt:104:1
 returns : tie.Need-returns
 returns c = (four-behind _ _ _ _ _ (c .before .before .before .before .before .before .before .before .before .before .before .before .before .before .before .before .before .push-behind .ensures .0) (c .before .before .before .before .before .before .before .before .before .before .before .before .push-behind2 .ensures .0) (c .before .before .before .before .before .before .before .push-behind3 .ensures .0) (c .before .before .push-behind4 .ensures .0), omega arith)
 

@@ -5,11 +5,9 @@ use Rattle.texts.proofs.reaches.Tie as tie
 use Rattle.texts.proofs.reaches.Reads as reads
 use Rattle.texts.proofs.reaches.Lts as lts
 
--- src/lib.rt:35:9
 returns : tie.Need-returns
 returns c = (rw (le-leb _ _ (c .if1 .taken)), omega arith)
 
--- src/lib.rt:31:1
 returns-2 : tie.Need-returns-2
 returns-2 c = (rw (lt-leb _ _ (c .if1 .left)), omega arith)
 

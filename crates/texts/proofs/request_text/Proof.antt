@@ -7,27 +7,21 @@ use Rattle.texts.proofs.request_text.Reads as reads
 use Rattle.texts.proofs.request_text.Lts as lts
 use Rattle.texts.proofs.push_behind.Reads as push-behind-reads
 
--- src/lib.rt:158:9
 push-behind-requires : tie.Need-push-behind-requires
 push-behind-requires c κs = search needs
 
--- src/lib.rt:159:9
 push-behind-requires-2 : tie.Need-push-behind-requires-2
 push-behind-requires-2 c κs = search needs
 
--- src/lib.rt:160:9
 push-behind-requires-3 : tie.Need-push-behind-requires-3
 push-behind-requires-3 c κs = search needs
 
--- src/lib.rt:161:5
 push-behind-requires-4 : tie.Need-push-behind-requires-4
 push-behind-requires-4 c κs = search needs
 
--- src/lib.rt:147:1
 same-length : tie.Need-same-length
 same-length c = search needs
 
--- src/lib.rt:147:1
 returns : tie.Need-returns
 returns c = (request-shown _ _ _ _ (c .before .before .before .before .before .before .before .before .before .before .before .before .before .before .push-behind .ensures .0) (c .before .before .before .before .before .before .before .before .before .before .push-behind2 .ensures .0) (c .before .before .before .before .before .before .push-behind3 .ensures .0) (c .before .before .push-behind4 .ensures .0), omega arith)
 

@@ -7,21 +7,17 @@ use Rattle.timing.proofs.answer_of.Tie as tie
 use Rattle.timing.proofs.answer_of.Reads as reads
 use Rattle.timing.proofs.answer_of.Lts as lts
 
--- src/lib.rt:151:9
 returns : tie.Need-returns
 unfolding answerOf
 returns c = rw (eq-eqb _ _ (c .if1 .taken)) refl
 
--- src/lib.rt:154:9
 returns-2 : tie.Need-returns-2
 unfolding answerOf
 returns-2 c = rw (ne-eqb _ _ (c .before .if1 .left), eq-eqb _ _ (c .if2 .taken)) refl
 
--- src/lib.rt:156:26
 sub-t3 : tie.Need-sub-t3
 sub-t3 c = search needs
 
--- src/lib.rt:147:1
 returns-3 : tie.Need-returns-3
 unfolding answerOf
 returns-3 c = rw (ne-eqb _ _ (c .before .if1 .left), ne-eqb _ _ (c .if2 .left)) refl

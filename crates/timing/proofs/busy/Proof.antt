@@ -17,32 +17,25 @@ Inv-loop plan kind length manager₀ i₀ manager i =
 abbrev μ-loop : tie.MeasureT-loop
 μ-loop plan kind length manager₀ i₀ manager i = 8 - i
 
--- src/lib.rt:40:9
 load-requires : tie.Need-load-requires Inv-loop μ-loop
 load-requires c κs = search needs
 
--- src/lib.rt:43:5
 loop-holds : tie.Need-loop-holds Inv-loop μ-loop
 unfolding repeated
 loop-holds c = (omega arith, refl)
 
--- src/lib.rt:44:13
 submit-requires : tie.Need-submit-requires Inv-loop μ-loop
 submit-requires c κs = search needs
 
--- src/lib.rt:46:9
 add-i : tie.Need-add-i Inv-loop μ-loop
 add-i c = search needs
 
--- src/lib.rt:43:5
 loop-less : tie.Need-loop-less Inv-loop μ-loop
 loop-less c = search needs
 
--- src/lib.rt:43:5
 loop-again : tie.Need-loop-again Inv-loop μ-loop
 loop-again c = (omega arith, rw (repeated-more, ← (c .before .before .before .loop .inv .1)) (c .before .submit .ensures .1))
 
--- src/lib.rt:37:1
 returns : tie.Need-returns Inv-loop μ-loop
 unfolding busyManager
 returns c = c .before .loop .inv .1 ∙ ap₂ (repeated (nextJob _ _)) (c .before .before .before .load .ensures .1) (omega arith)

@@ -18,44 +18,34 @@ Inv-loop plan times manager₀ sum₀ i₀ manager sum i =
 abbrev μ-loop : tie.MeasureT-loop
 μ-loop plan times manager₀ sum₀ i₀ manager sum i = times - i
 
--- src/lib.rt:56:9
 load-requires : tie.Need-load-requires Inv-loop μ-loop
 load-requires c κs = search needs
 
--- src/lib.rt:60:5
 loop-holds : tie.Need-loop-holds Inv-loop μ-loop
 unfolding repeated total
 loop-holds c = (omega arith, refl, refl, omega arith)
 
--- src/lib.rt:61:39
 cast-cancel : tie.Need-cast-cancel Inv-loop μ-loop
 cast-cancel c = search needs
 
--- src/lib.rt:61:13
 cancel-requires : tie.Need-cancel-requires Inv-loop μ-loop
 cancel-requires c κs = search needs
 
--- src/lib.rt:63:13
 number-requires : tie.Need-number-requires Inv-loop μ-loop
 number-requires c κs = search needs
 
--- src/lib.rt:64:16
 cast-sum : tie.Need-cast-sum Inv-loop μ-loop
 cast-sum c = search needs
 
--- src/lib.rt:64:9
 add-sum : tie.Need-add-sum Inv-loop μ-loop
 add-sum c = search needs
 
--- src/lib.rt:66:9
 add-i : tie.Need-add-i Inv-loop μ-loop
 add-i c = search needs
 
--- src/lib.rt:60:5
 loop-less : tie.Need-loop-less Inv-loop μ-loop
 loop-less c = search needs
 
--- src/lib.rt:60:5
 loop-again : tie.Need-loop-again Inv-loop μ-loop
 loop-again c =
     let inv = c .before .before .before .before .loop .inv in
@@ -67,7 +57,6 @@ loop-again c =
       omega arith,
     )
 
--- src/lib.rt:52:1
 returns : tie.Need-returns Inv-loop μ-loop
 returns c = c .before .loop .inv .2 ∙ ap₂ cancelTotal (c .before .before .before .load .ensures .1) (omega arith)
 

@@ -17,40 +17,31 @@ Inv-loop plan kind length times manager sum₀ i₀ sum i =
 abbrev μ-loop : tie.MeasureT-loop
 μ-loop plan kind length times manager sum₀ i₀ sum i = times - i
 
--- src/lib.rt:121:9
 busy-requires : tie.Need-busy-requires Inv-loop μ-loop
 busy-requires c κs = search needs
 
--- src/lib.rt:124:5
 loop-holds : tie.Need-loop-holds Inv-loop μ-loop
 unfolding repeated total
 loop-holds c = (omega arith, refl, omega arith)
 
--- src/lib.rt:125:38
 cast-job-info : tie.Need-cast-job-info Inv-loop μ-loop
 cast-job-info c = search needs
 
--- src/lib.rt:125:13
 job-info-requires : tie.Need-job-info-requires Inv-loop μ-loop
 job-info-requires c κs = search needs
 
--- src/lib.rt:128:16
 cast-sum : tie.Need-cast-sum Inv-loop μ-loop
 cast-sum c = search needs
 
--- src/lib.rt:128:9
 add-sum : tie.Need-add-sum Inv-loop μ-loop
 add-sum c = search needs
 
--- src/lib.rt:129:9
 add-i : tie.Need-add-i Inv-loop μ-loop
 add-i c = search needs
 
--- src/lib.rt:124:5
 loop-less : tie.Need-loop-less Inv-loop μ-loop
 loop-less c = search needs
 
--- src/lib.rt:124:5
 loop-again : tie.Need-loop-again Inv-loop μ-loop
 loop-again c =
     let here = c .before .before .before .before .before .loop in
@@ -60,7 +51,6 @@ loop-again c =
       omega arith,
     )
 
--- src/lib.rt:117:1
 returns : tie.Need-returns Inv-loop μ-loop
 returns c = c .before .loop .inv .1 ∙ ap₂ infoTotal (c .before .before .busy .ensures) (omega arith)
 

@@ -19,60 +19,46 @@ Inv-loop plan kind length times manager₀ sum₀ i₀ manager sum i =
 abbrev μ-loop : tie.MeasureT-loop
 μ-loop plan kind length times manager₀ sum₀ i₀ manager sum i = times - i
 
--- src/lib.rt:96:9
 load-requires : tie.Need-load-requires Inv-loop μ-loop
 load-requires c κs = search needs
 
--- src/lib.rt:100:5
 loop-holds : tie.Need-loop-holds Inv-loop μ-loop
 unfolding repeated total
 loop-holds c = (omega arith, refl, refl, omega arith)
 
--- src/lib.rt:101:20
 cast-area : tie.Need-cast-area Inv-loop μ-loop
 cast-area c = search needs
 
--- src/lib.rt:102:13
 submit-requires : tie.Need-submit-requires Inv-loop μ-loop
 submit-requires c κs = search needs
 
--- src/lib.rt:104:13
 number-requires : tie.Need-number-requires Inv-loop μ-loop
 number-requires c κs = search needs
 
--- src/lib.rt:106:13
 cancel-requires : tie.Need-cancel-requires Inv-loop μ-loop
 cancel-requires c κs = search needs
 
--- src/lib.rt:108:13
 number-requires-2 : tie.Need-number-requires-2 Inv-loop μ-loop
 number-requires-2 c κs = search needs
 
--- src/lib.rt:109:17
 cast-sum : tie.Need-cast-sum Inv-loop μ-loop
 cast-sum c = search needs
 
--- src/lib.rt:109:41
 cast-sum-2 : tie.Need-cast-sum-2 Inv-loop μ-loop
 cast-sum-2 c = search needs
 
--- src/lib.rt:109:16
 add-sum : tie.Need-add-sum Inv-loop μ-loop
 add-sum c = search needs
 
--- src/lib.rt:109:9
 add-sum-2 : tie.Need-add-sum-2 Inv-loop μ-loop
 add-sum-2 c = search needs
 
--- src/lib.rt:111:9
 add-i : tie.Need-add-i Inv-loop μ-loop
 add-i c = search needs
 
--- src/lib.rt:100:5
 loop-less : tie.Need-loop-less Inv-loop μ-loop
 loop-less c = search needs
 
--- src/lib.rt:100:5
 loop-again : tie.Need-loop-again Inv-loop μ-loop
 loop-again c =
     let here = c .before .before .before .before .before .before .before .loop in
@@ -86,7 +72,6 @@ loop-again c =
       omega arith,
     )
 
--- src/lib.rt:92:1
 returns : tie.Need-returns Inv-loop μ-loop
 returns c = c .before .loop .inv .2 ∙ ap₂ (pairTotal _ _) (c .before .before .before .load .ensures .1) (omega arith)
 

@@ -18,44 +18,34 @@ Inv-loop plan kind length times manager₀ sum₀ i₀ manager sum i =
 abbrev μ-loop : tie.MeasureT-loop
 μ-loop plan kind length times manager₀ sum₀ i₀ manager sum i = times - i
 
--- src/lib.rt:76:9
 load-requires : tie.Need-load-requires Inv-loop μ-loop
 load-requires c κs = search needs
 
--- src/lib.rt:80:5
 loop-holds : tie.Need-loop-holds Inv-loop μ-loop
 unfolding repeated total
 loop-holds c = (omega arith, refl, refl, omega arith)
 
--- src/lib.rt:81:46
 cast-submit : tie.Need-cast-submit Inv-loop μ-loop
 cast-submit c = search needs
 
--- src/lib.rt:81:13
 submit-requires : tie.Need-submit-requires Inv-loop μ-loop
 submit-requires c κs = search needs
 
--- src/lib.rt:83:13
 number-requires : tie.Need-number-requires Inv-loop μ-loop
 number-requires c κs = search needs
 
--- src/lib.rt:84:16
 cast-sum : tie.Need-cast-sum Inv-loop μ-loop
 cast-sum c = search needs
 
--- src/lib.rt:84:9
 add-sum : tie.Need-add-sum Inv-loop μ-loop
 add-sum c = search needs
 
--- src/lib.rt:86:9
 add-i : tie.Need-add-i Inv-loop μ-loop
 add-i c = search needs
 
--- src/lib.rt:80:5
 loop-less : tie.Need-loop-less Inv-loop μ-loop
 loop-less c = search needs
 
--- src/lib.rt:80:5
 loop-again : tie.Need-loop-again Inv-loop μ-loop
 loop-again c =
     let inv = c .before .before .before .before .loop .inv in
@@ -67,7 +57,6 @@ loop-again c =
       omega arith,
     )
 
--- src/lib.rt:72:1
 returns : tie.Need-returns Inv-loop μ-loop
 returns c = c .before .loop .inv .2 ∙ ap₂ (jobTotal _ _) (c .before .before .before .load .ensures .1) (omega arith)
 

@@ -27,44 +27,34 @@ Inv-loop plan kind length answer times image₀ store₀ manager₀ answers sum�
 abbrev μ-loop : tie.MeasureT-loop
 μ-loop plan kind length answer times image₀ store₀ manager₀ answers sum₀ i₀ image store manager sum i = times - i
 
--- src/lib.rt:188:9
 busy-requires : tie.Need-busy-requires Inv-loop μ-loop
 busy-requires c κs = search needs
 
--- src/lib.rt:189:20
 answer-of-requires : tie.Need-answer-of-requires Inv-loop μ-loop
 answer-of-requires c κs = search needs
 
--- src/lib.rt:192:5
 loop-holds : tie.Need-loop-holds Inv-loop μ-loop
 unfolding rounds roundTotal
 loop-holds c = (omega arith, refl, refl, refl, refl, omega arith)
 
--- src/lib.rt:193:13
 round-requires : tie.Need-round-requires Inv-loop μ-loop
 round-requires c κs = search needs
 
--- src/lib.rt:195:13
 number-requires : tie.Need-number-requires Inv-loop μ-loop
 number-requires c κs = search needs
 
--- src/lib.rt:196:16
 cast-sum : tie.Need-cast-sum Inv-loop μ-loop
 cast-sum c = search needs
 
--- src/lib.rt:196:9
 add-sum : tie.Need-add-sum Inv-loop μ-loop
 add-sum c = search needs
 
--- src/lib.rt:198:9
 add-i : tie.Need-add-i Inv-loop μ-loop
 add-i c = search needs
 
--- src/lib.rt:192:5
 loop-less : tie.Need-loop-less Inv-loop μ-loop
 loop-less c = search needs
 
--- src/lib.rt:192:5
 loop-again : tie.Need-loop-again Inv-loop μ-loop
 loop-again c =
     let here = c .before .before .before .before .before .before .before .before .before .before .loop in
@@ -79,23 +69,18 @@ loop-again c =
       omega arith,
     )
 
--- src/lib.rt:200:11
 processed-sum-requires : tie.Need-processed-sum-requires Inv-loop μ-loop
 processed-sum-requires c κs = search needs
 
--- src/lib.rt:200:5
 add-result : tie.Need-add-result Inv-loop μ-loop
 add-result c = search needs
 
--- src/lib.rt:174:1
 same-length : tie.Need-same-length Inv-loop μ-loop
 same-length c = search needs
 
--- src/lib.rt:174:1
 same-length-2 : tie.Need-same-length-2 Inv-loop μ-loop
 same-length-2 c = search needs
 
--- src/lib.rt:174:1
 returns : tie.Need-returns Inv-loop μ-loop
 returns c =
     let here = c .before .before .loop in

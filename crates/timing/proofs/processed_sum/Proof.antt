@@ -17,32 +17,25 @@ Inv-loop manager sum₀ i₀ sum i =
 abbrev μ-loop : tie.MeasureT-loop
 μ-loop manager sum₀ i₀ sum i = 8 - i
 
--- src/lib.rt:165:5
 loop-holds : tie.Need-loop-holds Inv-loop μ-loop
 unfolding total
 loop-holds c = (omega arith, refl, omega arith)
 
--- src/lib.rt:166:13
 processed-requires : tie.Need-processed-requires Inv-loop μ-loop
 processed-requires c κs = search needs
 
--- src/lib.rt:167:16
 cast-sum : tie.Need-cast-sum Inv-loop μ-loop
 cast-sum c = search needs
 
--- src/lib.rt:167:9
 add-sum : tie.Need-add-sum Inv-loop μ-loop
 add-sum c = search needs
 
--- src/lib.rt:168:9
 add-i : tie.Need-add-i Inv-loop μ-loop
 add-i c = search needs
 
--- src/lib.rt:165:5
 loop-less : tie.Need-loop-less Inv-loop μ-loop
 loop-less c = search needs
 
--- src/lib.rt:165:5
 loop-again : tie.Need-loop-again Inv-loop μ-loop
 loop-again c =
     let here = c .before .before .before .loop in (
@@ -51,7 +44,6 @@ loop-again c =
       omega arith,
     )
 
--- src/lib.rt:159:1
 returns : tie.Need-returns Inv-loop μ-loop
 returns c = (c .before .loop .inv .1 ∙ ap (processedTotal _) (omega arith), omega arith)
 

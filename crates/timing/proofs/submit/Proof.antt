@@ -12,56 +12,44 @@ use Rattle.manager.proofs.Manager.lock.Reads as lock-reads
 use Rattle.manager.proofs.Manager.read.Reads as read-reads
 use Rattle.manager.proofs.Manager.write.Reads as write-reads
 
--- src/lib.rt:19:9
 write-requires : tie.Need-write-requires
 write-requires c κs = search needs
 
--- src/lib.rt:19:9
 returns : tie.Need-returns
 unfolding kindOf
 returns c = rw (eq-eqb _ _ (c .before .if1 .taken)) (c .write .ensures)
 
--- src/lib.rt:22:9
 read-requires : tie.Need-read-requires
 read-requires c κs = search needs
 
--- src/lib.rt:22:9
 returns-2 : tie.Need-returns-2
 unfolding kindOf
 returns-2 c = rw (eq-eqb _ _ (c .before .if2 .taken), ne-eqb _ _ (c .before .before .if1 .left)) (c .read .ensures)
 
--- src/lib.rt:25:9
 compare-requires : tie.Need-compare-requires
 compare-requires c κs = search needs
 
--- src/lib.rt:25:9
 returns-3 : tie.Need-returns-3
 unfolding kindOf
 returns-3 c = rw (eq-eqb _ _ (c .before .if3 .taken), ne-eqb _ _ (c .before .before .if2 .left), ne-eqb _ _ (c .before .before .before .if1 .left)) (c .compare .ensures)
 
--- src/lib.rt:28:9
 erase-requires : tie.Need-erase-requires
 erase-requires c κs = search needs
 
--- src/lib.rt:28:9
 returns-4 : tie.Need-returns-4
 unfolding kindOf
 returns-4 c = rw (eq-eqb _ _ (c .before .if4 .taken), ne-eqb _ _ (c .before .before .if3 .left), ne-eqb _ _ (c .before .before .before .if2 .left), ne-eqb _ _ (c .before .before .before .before .if1 .left)) (c .erase .ensures)
 
--- src/lib.rt:31:9
 blank-check-requires : tie.Need-blank-check-requires
 blank-check-requires c κs = search needs
 
--- src/lib.rt:31:9
 returns-5 : tie.Need-returns-5
 unfolding kindOf
 returns-5 c = rw (eq-eqb _ _ (c .before .if5 .taken), ne-eqb _ _ (c .before .before .if4 .left), ne-eqb _ _ (c .before .before .before .if3 .left), ne-eqb _ _ (c .before .before .before .before .if2 .left), ne-eqb _ _ (c .before .before .before .before .before .if1 .left)) (c .blank-check .ensures)
 
--- src/lib.rt:33:5
 lock-requires : tie.Need-lock-requires
 lock-requires c κs = search needs
 
--- src/lib.rt:13:1
 returns-6 : tie.Need-returns-6
 unfolding kindOf
 returns-6 c = rw (ne-eqb _ _ (c .before .if5 .left), ne-eqb _ _ (c .before .before .if4 .left), ne-eqb _ _ (c .before .before .before .if3 .left), ne-eqb _ _ (c .before .before .before .before .if2 .left), ne-eqb _ _ (c .before .before .before .before .before .if1 .left)) (c .lock .ensures)

@@ -8,27 +8,21 @@ use Rattle.transfer.proofs.blank_part.Reads as reads
 use Rattle.transfer.proofs.blank_part.Lts as lts
 use Rattle.transfer.proofs.blank_all.Reads as blank-all-reads
 
--- src/lib.rt:117:13
 add-e : tie.Need-add-e
 add-e c = search needs
 
--- src/lib.rt:118:15
 sub-blank-all : tie.Need-sub-blank-all
 sub-blank-all c = search needs
 
--- src/lib.rt:118:15
 part-blank-all-start : tie.Need-part-blank-all-start
 part-blank-all-start c = search needs
 
--- src/lib.rt:118:15
 part-blank-all-end : tie.Need-part-blank-all-end
 part-blank-all-end c = search needs
 
--- src/lib.rt:118:5
 blank-all-requires : tie.Need-blank-all-requires
 blank-all-requires c κs = search needs
 
--- src/lib.rt:113:1
 returns : tie.Need-returns
 returns c =
     let a = c .before .before .before .args in

@@ -8,31 +8,24 @@ use Rattle.transfer.proofs.copy_to.Reads as reads
 use Rattle.transfer.proofs.copy_to.Lts as lts
 use Rattle.transfer.proofs.copy_all.Reads as copy-all-reads
 
--- src/lib.rt:72:13
 add-e : tie.Need-add-e
 add-e c = search needs
 
--- src/lib.rt:73:14
 sub-copy-all : tie.Need-sub-copy-all
 sub-copy-all c = search needs
 
--- src/lib.rt:73:14
 part-copy-all-start : tie.Need-part-copy-all-start
 part-copy-all-start c = search needs
 
--- src/lib.rt:73:14
 part-copy-all-end : tie.Need-part-copy-all-end
 part-copy-all-end c = search needs
 
--- src/lib.rt:73:5
 copy-all-requires : tie.Need-copy-all-requires
 copy-all-requires c κs = search needs
 
--- src/lib.rt:68:1
 same-length : tie.Need-same-length
 same-length c = search needs
 
--- src/lib.rt:68:1
 returns : tie.Need-returns
 returns c =
     let a = c .before .before .before .before .before .before .args in

@@ -1,7 +1,6 @@
 use Prim.Native.Nat.{ℕ}
 use mathlib.Core.Path.{_∙_, ap}
 use lib.ListN.{length, replicate, length-replicate}
-use Rattle.arith.specs.Parts.{part}
 use Rattle.transfer.specs.PartLaws.{part-is, put-is, length-part}
 use borrow.Author.Needs.{needs}
 use Rattle.transfer.proofs.erase_part.Statement.{statement}
@@ -10,31 +9,24 @@ use Rattle.transfer.proofs.erase_part.Reads as reads
 use Rattle.transfer.proofs.erase_part.Lts as lts
 use Rattle.transfer.proofs.fill_all.Reads as fill-all-reads
 
--- src/lib.rt:57:13
 add-e : tie.Need-add-e
 add-e c = search needs
 
--- src/lib.rt:58:14
 sub-fill-all : tie.Need-sub-fill-all
 sub-fill-all c = search needs
 
--- src/lib.rt:58:14
 part-fill-all-start : tie.Need-part-fill-all-start
 part-fill-all-start c = search needs
 
--- src/lib.rt:58:14
 part-fill-all-end : tie.Need-part-fill-all-end
 part-fill-all-end c = search needs
 
--- src/lib.rt:58:5
 fill-all-requires : tie.Need-fill-all-requires
 fill-all-requires c κs = search needs
 
--- src/lib.rt:53:1
 same-length : tie.Need-same-length
 same-length c = search needs
 
--- src/lib.rt:53:1
 returns : tie.Need-returns
 returns c =
     let a = c .before .before .before .before .before .args in

@@ -1,8 +1,7 @@
-use Prim.Native.Nat.{_≤_, _<_, _-_}
+use Prim.Native.Nat.{_≤_, _-_}
 use mathlib.Core.Path.{_≡_, refl, _∙_, sym}
 use native.Mathlib.Omega.{arith}
-use borrow.Author.Needs.{needs}
-use lib.ListN.{length, take, drop, length-set, replicate}
+use lib.ListN.{length, take, length-set, replicate}
 use lib.Seq.{take-all}
 use Rattle.transfer.specs.PartLaws.{fill-turn}
 use Rattle.transfer.proofs.fill_all.Statement.{statement}
@@ -16,33 +15,26 @@ Inv-loop dst₀ b i₀ dst i = (i ≤ length dst₀) × ((length dst ≡ length 
 abbrev μ-loop : tie.MeasureT-loop
 μ-loop dst₀ b i₀ dst i = length dst₀ - i
 
--- src/lib.rt:23:5
 loop-holds : tie.Need-loop-holds Inv-loop μ-loop
 loop-holds c = (omega arith, (refl, refl))
 
--- src/lib.rt:24:9
 slice-write-dst : tie.Need-slice-write-dst Inv-loop μ-loop
 slice-write-dst c = omega arith
 
--- src/lib.rt:25:9
 add-i : tie.Need-add-i Inv-loop μ-loop
 add-i c = omega arith
 
--- src/lib.rt:23:5
 loop-less : tie.Need-loop-less Inv-loop μ-loop
 loop-less c = omega arith
 
--- src/lib.rt:23:5
 loop-again : tie.Need-loop-again Inv-loop μ-loop
 loop-again c =
     let l = c .before .loop in
     (omega arith, (simp length-set (l .inv .1 .0), fill-turn (l .dst) (c .before .before .args .b) (l .i) (omega arith) (l .inv .1 .1)))
 
--- src/lib.rt:19:1
 same-length : tie.Need-same-length Inv-loop μ-loop
 same-length c = c .before .loop .inv .1 .0
 
--- src/lib.rt:19:1
 returns : tie.Need-returns Inv-loop μ-loop
 returns c =
     let l = c .before .loop in

@@ -10,31 +10,24 @@ use Rattle.transfer.proofs.read_part.Reads as reads
 use Rattle.transfer.proofs.read_part.Lts as lts
 use Rattle.transfer.proofs.copy_to.Reads as copy-to-reads
 
--- src/lib.rt:90:13
 add-e : tie.Need-add-e
 add-e c = search needs
 
--- src/lib.rt:91:23
 sub-copy-to : tie.Need-sub-copy-to
 sub-copy-to c = search needs
 
--- src/lib.rt:91:23
 part-copy-to-start : tie.Need-part-copy-to-start
 part-copy-to-start c = search needs
 
--- src/lib.rt:91:23
 part-copy-to-end : tie.Need-part-copy-to-end
 part-copy-to-end c = search needs
 
--- src/lib.rt:91:5
 copy-to-requires : tie.Need-copy-to-requires
 copy-to-requires c κs = search needs
 
--- src/lib.rt:86:1
 same-length : tie.Need-same-length
 same-length c = search needs
 
--- src/lib.rt:86:1
 returns : tie.Need-returns
 returns c =
     let a = c .before .before .before .before .before .before .before .args in

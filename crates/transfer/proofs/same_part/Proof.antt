@@ -9,33 +9,26 @@ use Rattle.transfer.proofs.same_part.Lts as lts
 use Rattle.transfer.proofs.same_all.Reads as same-all-reads
 use Rattle.transfer.proofs.window_part.Reads as window-part-reads
 
--- src/lib.rt:107:13
 add-e : tie.Need-add-e
 add-e c = search needs
 
--- src/lib.rt:108:9
 window-part-requires : tie.Need-window-part-requires
 window-part-requires c κs = search needs
 
--- src/lib.rt:109:14
 sub-same-all : tie.Need-sub-same-all
 sub-same-all c = search needs
 
--- src/lib.rt:109:14
 part-same-all-start : tie.Need-part-same-all-start
 part-same-all-start c = search needs
 
--- src/lib.rt:109:14
 part-same-all-end : tie.Need-part-same-all-end
 part-same-all-end c = search needs
 
--- src/lib.rt:109:5
 same-all-requires : tie.Need-same-all-requires
 same-all-requires c κs =
     let a = c .before .before .before .before .args in
     length-lent (a .image .now) (a .p) (a .n) (omega arith) ∙ sym (c .before .window-part .ensures .1)
 
--- src/lib.rt:103:1
 returns : tie.Need-returns
 returns c =
     let a = c .before .before .before .before .before .args in

@@ -6,23 +6,18 @@ use Rattle.transfer.proofs.window_part.Tie as tie
 use Rattle.transfer.proofs.window_part.Reads as reads
 use Rattle.transfer.proofs.window_part.Lts as lts
 
--- src/lib.rt:96:13
 add-e : tie.Need-add-e
 add-e c = search needs
 
--- src/lib.rt:97:5
 sub-result : tie.Need-sub-result
 sub-result c = search needs
 
--- src/lib.rt:97:5
 part-result-start : tie.Need-part-result-start
 part-result-start c = search needs
 
--- src/lib.rt:97:5
 part-result-end : tie.Need-part-result-end
 part-result-end c = search needs
 
--- src/lib.rt:92:1
 returns : tie.Need-returns
 returns c =
     let a = c .before .args in

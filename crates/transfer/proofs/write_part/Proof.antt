@@ -11,19 +11,15 @@ use Rattle.transfer.proofs.write_part.Lts as lts
 use Rattle.transfer.proofs.copy_to.Reads as copy-to-reads
 use Rattle.transfer.proofs.window_part.Reads as window-part-reads
 
--- src/lib.rt:81:9
 window-part-requires : tie.Need-window-part-requires
 window-part-requires c κs = search needs
 
--- src/lib.rt:82:5
 copy-to-requires : tie.Need-copy-to-requires
 copy-to-requires c κs = omega (arith, c .before .window-part .ensures .1)
 
--- src/lib.rt:77:1
 same-length : tie.Need-same-length
 same-length c = search needs
 
--- src/lib.rt:77:1
 returns : tie.Need-returns
 returns c =
     let a = c .before .before .before .before .before .before .before .args in

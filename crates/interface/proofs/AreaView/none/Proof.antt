@@ -8,15 +8,12 @@ use Rattle.interface.proofs.AreaView.none.Lts as lts
 use Rattle.interface.proofs.AreaView.of.Reads as of-reads
 use Rattle.state.proofs.Area.fresh.Reads as fresh-reads
 
--- src/lib.rt:72:13
 fresh-requires : tie.Need-fresh-requires
 fresh-requires c κs = search needs
 
--- src/lib.rt:73:9
 of-requires : tie.Need-of-requires
 of-requires c κs = search needs
 
--- src/lib.rt:69:5
 returns : tie.Need-returns
 returns c = c .of .ensures ∙ ap areaView (c .before .fresh .ensures)
 

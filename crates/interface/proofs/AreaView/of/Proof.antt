@@ -5,11 +5,9 @@ use Rattle.interface.proofs.AreaView.of.Reads as reads
 use Rattle.interface.proofs.AreaView.of.Lts as lts
 use Rattle.interface.proofs.JobView.of.Reads as of-reads
 
--- src/lib.rt:82:18
 of-requires : tie.Need-of-requires
 of-requires c κs = search needs
 
--- src/lib.rt:76:5
 returns : tie.Need-returns
 returns c = rw (c .of .ensures)
 

@@ -5,31 +5,24 @@ use Rattle.interface.proofs.DeviceView.of.Reads as reads
 use Rattle.interface.proofs.DeviceView.of.Lts as lts
 use Rattle.interface.proofs.DeviceView.none.Reads as none-reads
 
--- src/lib.rt:104:34
 enum-told : tie.Need-enum-told
 enum-told c = search needs
 
--- src/lib.rt:104:34
 none-requires : tie.Need-none-requires
 none-requires c κs = search needs
 
--- src/lib.rt:105:33
 enum-known-state : tie.Need-enum-known-state
 enum-known-state c = search needs
 
--- src/lib.rt:110:36
 enum-known-state-2 : tie.Need-enum-known-state-2
 enum-known-state-2 c = search needs
 
--- src/lib.rt:99:5
 returns : tie.Need-returns
 returns c = search needs
 
--- src/lib.rt:99:5
 returns-2 : tie.Need-returns-2
 returns-2 c = simp (c .before .state .given .1)
 
--- src/lib.rt:99:5
 returns-3 : tie.Need-returns-3
 returns-3 c = simp (c .before .state2 .given .1)
 

@@ -6,15 +6,12 @@ use Rattle.interface.proofs.JobView.of.Lts as lts
 use Rattle.memory.proofs.JobStatus.number.Reads as JobStatus-number-reads
 use Rattle.memory.proofs.JobType.number.Reads as JobType-number-reads
 
--- src/lib.rt:57:19
 number-requires : tie.Need-number-requires
 number-requires c κs = search needs
 
--- src/lib.rt:58:21
 number-requires-2 : tie.Need-number-requires-2
 number-requires-2 c κs = search needs
 
--- src/lib.rt:49:5
 returns : tie.Need-returns
 returns c = rw (c .number2 .ensures, c .before .number .ensures)
 

@@ -9,23 +9,18 @@ use Rattle.machine.proofs.devices.begun_job.Lts as lts
 use Rattle.jobs.proofs.begun.Reads as begun-reads
 use Rattle.segment.proofs.segment_at.Reads as segment-at-reads
 
--- src/devices.rt:75:9
 segment-at-requires : tie.Need-segment-at-requires
 segment-at-requires c κs = search needs
 
--- src/devices.rt:76:17
 mul-entry : tie.Need-mul-entry
 mul-entry c = search needs
 
--- src/devices.rt:76:17
 array-copy-out-entry : tie.Need-array-copy-out-entry
 array-copy-out-entry c = search needs
 
--- src/devices.rt:78:5
 begun-requires : tie.Need-begun-requires
 begun-requires c κs = search needs
 
--- src/devices.rt:71:1
 returns : tie.Need-returns
 returns c = c .begun .ensures ∙ begun-first (c .before .before .before .before .args .plan) (c .before .before .before .before .args .area) (c .before .before .before .before .args .task) (jobIn (c .before .before .before .before .args .t2) (c .before .before .before .before .args .area)) _ (c .before .before .before .segment-at .ensures)
 

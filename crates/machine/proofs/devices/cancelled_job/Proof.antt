@@ -12,31 +12,24 @@ use Rattle.machine.proofs.devices.area_runs.Reads as area-runs-reads
 use Rattle.jobs.proofs.cancelled.Reads as cancelled-reads
 use Rattle.jobs.proofs.ended.Reads as ended-reads
 
--- src/devices.rt:54:17
 mul-entry : tie.Need-mul-entry
 mul-entry c = search needs
 
--- src/devices.rt:54:17
 array-copy-out-entry : tie.Need-array-copy-out-entry
 array-copy-out-entry c = search needs
 
--- src/devices.rt:56:8
 area-runs-requires : tie.Need-area-runs-requires
 area-runs-requires c κs = search needs
 
--- src/devices.rt:57:9
 cancelled-requires : tie.Need-cancelled-requires
 cancelled-requires c κs = search needs
 
--- src/devices.rt:57:9
 returns : tie.Need-returns
 returns c = c .cancelled .ensures ∙ cancel-job (layoutOf (c .before .before .before .before .before .args .plan)) (c .before .before .before .before .before .args .area) (coreIn (c .before .before .before .before .before .args .t2) (c .before .before .before .before .before .args .devices)) true (sym (c .before .if1 .taken) ∙ c .before .before .area-runs .ensures)
 
--- src/devices.rt:59:5
 ended-requires : tie.Need-ended-requires
 ended-requires c κs = search needs
 
--- src/devices.rt:50:1
 returns-2 : tie.Need-returns-2
 returns-2 c = c .ended .ensures ∙ cancel-job (layoutOf (c .before .before .before .before .before .args .plan)) (c .before .before .before .before .before .args .area) (coreIn (c .before .before .before .before .before .args .t2) (c .before .before .before .before .before .args .devices)) false (sym (c .before .if1 .left) ∙ c .before .before .area-runs .ensures)
 

@@ -7,35 +7,27 @@ use Rattle.machine.proofs.devices.holds_lock.Reads as reads
 use Rattle.machine.proofs.devices.holds_lock.Lts as lts
 use Rattle.machine.proofs.devices.state_on.Reads as state-on-reads
 
--- src/devices.rt:62:9
 state-on-requires : tie.Need-state-on-requires
 state-on-requires c κs = search needs
 
--- src/devices.rt:64:30
 enum-told : tie.Need-enum-told
 enum-told c = search needs
 
--- src/devices.rt:65:52
 enum-told-2 : tie.Need-enum-told-2
 enum-told-2 c = search needs
 
--- src/devices.rt:66:32
 enum-known-state : tie.Need-enum-known-state
 enum-known-state c = search needs
 
--- src/devices.rt:66:51
 cast-result : tie.Need-cast-result
 cast-result c = search needs
 
--- src/devices.rt:59:1
 returns : tie.Need-returns
 returns c = ap (holdsLock (c .before .before .before .args .area)) (sym (c .enum-told .given .1) ∙ c .before .before .state-on .ensures)
 
--- src/devices.rt:59:1
 returns-2 : tie.Need-returns-2
 returns-2 c = ap (holdsLock (c .before .before .before .args .area)) (sym (c .enum-told2 .given .1) ∙ c .before .before .state-on .ensures)
 
--- src/devices.rt:59:1
 returns-3 : tie.Need-returns-3
 returns-3 c = ap (holdsLock (c .before .before .before .before .args .area)) (sym (c .before .state .given .1) ∙ c .before .before .before .state-on .ensures)
 

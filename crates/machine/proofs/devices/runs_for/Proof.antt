@@ -4,31 +4,24 @@ use Rattle.machine.proofs.devices.runs_for.Tie as tie
 use Rattle.machine.proofs.devices.runs_for.Reads as reads
 use Rattle.machine.proofs.devices.runs_for.Lts as lts
 
--- src/devices.rt:18:30
 enum-told : tie.Need-enum-told
 enum-told c = search needs
 
--- src/devices.rt:20:19
 enum-known-state : tie.Need-enum-known-state
 enum-known-state c = search needs
 
--- src/devices.rt:22:14
 cast-result : tie.Need-cast-result
 cast-result c = search needs
 
--- src/devices.rt:23:38
 enum-told-2 : tie.Need-enum-told-2
 enum-told-2 c = search needs
 
--- src/devices.rt:14:1
 returns : tie.Need-returns
 returns c = search needs
 
--- src/devices.rt:14:1
 returns-2 : tie.Need-returns-2
 returns-2 c = rw (c .before .state .given .1)
 
--- src/devices.rt:14:1
 returns-3 : tie.Need-returns-3
 returns-3 c = search needs
 

@@ -7,19 +7,15 @@ use Rattle.machine.proofs.devices.state_on.Tie as tie
 use Rattle.machine.proofs.devices.state_on.Reads as reads
 use Rattle.machine.proofs.devices.state_on.Lts as lts
 
--- src/devices.rt:26:9
 returns : tie.Need-returns
 returns c = sym (state-past (c .before .args .t1) (c .before .args .device) (omega (arith, c .before .good .0 .1 .0 .1, c .if1 .taken)))
 
--- src/devices.rt:28:17
 mul-entry : tie.Need-mul-entry
 mul-entry c = search needs
 
--- src/devices.rt:28:17
 array-copy-out-entry : tie.Need-array-copy-out-entry
 array-copy-out-entry c = search needs
 
--- src/devices.rt:22:1
 returns-2 : tie.Need-returns-2
 returns-2 c = search needs
 

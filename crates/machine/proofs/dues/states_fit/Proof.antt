@@ -20,80 +20,61 @@ Inv-loop device-count area-count device-records area-records areas devices dues 
 abbrev μ-loop : tie.MeasureT-loop
 μ-loop device-count area-count device-records area-records areas devices dues sum d₀ d = device-count - d
 
--- src/dues.rt:81:9
 device-sum-requires : tie.Need-device-sum-requires Inv-loop μ-loop
 device-sum-requires c κs = search needs
 
--- src/dues.rt:83:5
 loop-holds : tie.Need-loop-holds Inv-loop μ-loop
 unfolding every
 loop-holds c = (omega arith, refl)
 
--- src/dues.rt:84:22
 mul-device : tie.Need-mul-device Inv-loop μ-loop
 mul-device c = search needs
 
--- src/dues.rt:84:22
 array-copy-out-device : tie.Need-array-copy-out-device Inv-loop μ-loop
 array-copy-out-device c = search needs
 
--- src/dues.rt:86:13
 runner-requires : tie.Need-runner-requires Inv-loop μ-loop
 runner-requires c κs = search needs
 
--- src/dues.rt:87:21
 mul-entry : tie.Need-mul-entry Inv-loop μ-loop
 mul-entry c = search needs
 
--- src/dues.rt:87:21
 array-copy-out-entry : tie.Need-array-copy-out-entry Inv-loop μ-loop
 array-copy-out-entry c = search needs
 
--- src/dues.rt:89:29
 mul-device-record : tie.Need-mul-device-record Inv-loop μ-loop
 mul-device-record c = search needs
 
--- src/dues.rt:89:29
 array-copy-out-device-record : tie.Need-array-copy-out-device-record Inv-loop μ-loop
 array-copy-out-device-record c = search needs
 
--- src/dues.rt:90:27
 mul-area-record : tie.Need-mul-area-record Inv-loop μ-loop
 mul-area-record c = search needs
 
--- src/dues.rt:90:27
 array-copy-out-area-record : tie.Need-array-copy-out-area-record Inv-loop μ-loop
 array-copy-out-area-record c = search needs
 
--- src/dues.rt:91:77
 mul-state-fits : tie.Need-mul-state-fits Inv-loop μ-loop
 mul-state-fits c = search needs
 
--- src/dues.rt:91:77
 array-copy-out-state-fits : tie.Need-array-copy-out-state-fits Inv-loop μ-loop
 array-copy-out-state-fits c = search needs
 
--- src/dues.rt:91:13
 state-fits-requires : tie.Need-state-fits-requires Inv-loop μ-loop
 state-fits-requires c κs = c .before .before .before .before .before .before .before .before .before .device-sum .ensures .1
 
--- src/dues.rt:92:13
 returns : tie.Need-returns Inv-loop μ-loop
 returns c = sym (every-fails _ _ _ (omega arith) (state-turn (c .before .before .before .before .before .before .before .before .before .before .before .before .args .t1) (c .before .before .before .before .before .before .before .before .before .before .before .before .args .device-count) (c .before .before .before .before .before .before .before .before .before .before .before .before .args .t3) (c .before .before .before .before .before .before .before .before .before .before .before .before .args .area-count) (c .before .before .before .before .before .before .before .before .before .before .before .before .args .t5) (c .before .before .before .before .before .before .before .before .before .before .before .before .args .t6) (c .before .before .before .before .before .before .before .before .before .before .before .before .args .t7) (c .before .before .before .before .before .before .before .before .before .before .loop .d) (c .before .before .before .before .before .before .before .runner .result) (c .before .before .before .before .before .before .before .runner .ensures .0) (c .before .before .before .before .before .before .before .before .before .before .before .device-sum .result) (c .before .before .before .before .before .before .before .before .before .before .before .device-sum .ensures .0) (c .before .state-fits .result) (c .before .state-fits .ensures) ∙ not-true (c .before .state-fits .result) (c .if1 .taken)))
 
--- src/dues.rt:94:9
 add-d : tie.Need-add-d Inv-loop μ-loop
 add-d c = search needs
 
--- src/dues.rt:83:5
 loop-less : tie.Need-loop-less Inv-loop μ-loop
 loop-less c = search needs
 
--- src/dues.rt:83:5
 loop-again : tie.Need-loop-again Inv-loop μ-loop
 loop-again c = (omega arith, every-more _ _ (c .before .before .before .before .before .before .before .before .before .before .loop .inv .1) (state-turn (c .before .before .before .before .before .before .before .before .before .before .before .before .args .t1) (c .before .before .before .before .before .before .before .before .before .before .before .before .args .device-count) (c .before .before .before .before .before .before .before .before .before .before .before .before .args .t3) (c .before .before .before .before .before .before .before .before .before .before .before .before .args .area-count) (c .before .before .before .before .before .before .before .before .before .before .before .before .args .t5) (c .before .before .before .before .before .before .before .before .before .before .before .before .args .t6) (c .before .before .before .before .before .before .before .before .before .before .before .before .args .t7) (c .before .before .before .before .before .before .before .before .before .before .loop .d) (c .before .before .before .before .before .before .before .runner .result) (c .before .before .before .before .before .before .before .runner .ensures .0) (c .before .before .before .before .before .before .before .before .before .before .before .device-sum .result) (c .before .before .before .before .before .before .before .before .before .before .before .device-sum .ensures .0) (c .before .state-fits .result) (c .before .state-fits .ensures) ∙ not-false (c .before .state-fits .result) (c .if1 .left)))
 
--- src/dues.rt:69:1
 returns-2 : tie.Need-returns-2 Inv-loop μ-loop
 returns-2 c = sym (ap (every _) (omega arith) ∙ c .before .loop .inv .1)
 

@@ -6,19 +6,15 @@ use Rattle.machine.proofs.queries.job_info.Reads as reads
 use Rattle.machine.proofs.queries.job_info.Lts as lts
 use Rattle.machine.proofs.queries.request_info.Reads as request-info-reads
 
--- src/queries.rt:80:9
 request-info-requires : tie.Need-request-info-requires
 request-info-requires c κs = search needs
 
--- src/queries.rt:81:17
 mul-entry : tie.Need-mul-entry
 mul-entry c = search needs
 
--- src/queries.rt:81:17
 array-copy-out-entry : tie.Need-array-copy-out-entry
 array-copy-out-entry c = search needs
 
--- src/queries.rt:76:1
 returns : tie.Need-returns
 unfolding jobInfoOf
 returns c = rw (c .before .before .before .before .before .request-info .ensures)

@@ -5,27 +5,21 @@ use Rattle.machine.proofs.queries.memory_in.Reads as reads
 use Rattle.machine.proofs.queries.memory_in.Lts as lts
 use Rattle.plan.proofs.records.SubAreaRecord.size.Reads as size-reads
 
--- src/queries.rt:113:9
 size-requires : tie.Need-size-requires
 size-requires c κs = search needs
 
--- src/queries.rt:118:52
 cast-t8 : tie.Need-cast-t8
 cast-t8 c = search needs
 
--- src/queries.rt:118:39
 sub-t9 : tie.Need-sub-t9
 sub-t9 c = search needs
 
--- src/queries.rt:119:36
 cast-t11 : tie.Need-cast-t11
 cast-t11 c = search needs
 
--- src/queries.rt:120:21
 sub-t13 : tie.Need-sub-t13
 sub-t13 c = search needs
 
--- src/queries.rt:109:1
 returns : tie.Need-returns
 returns c = rw (c .before .before .before .before .before .size .ensures .0)
 

@@ -10,43 +10,33 @@ use Rattle.machine.proofs.queries.memory_in.Reads as memory-in-reads
 use Rattle.machine.proofs.queries.no_memory.Reads as no-memory-reads
 use Rattle.segment.proofs.map_address.Reads as map-address-reads
 
--- src/queries.rt:132:41
 cast-map-address : tie.Need-cast-map-address
 cast-map-address c = search needs
 
--- src/queries.rt:132:9
 map-address-requires : tie.Need-map-address-requires
 map-address-requires c κs = search needs
 
--- src/queries.rt:134:27
 enum-told : tie.Need-enum-told
 enum-told c = search needs
 
--- src/queries.rt:134:27
 no-memory-requires : tie.Need-no-memory-requires
 no-memory-requires c κs = search needs
 
--- src/queries.rt:135:21
 enum-known-found : tie.Need-enum-known-found
 enum-known-found c = search needs
 
--- src/queries.rt:137:32
 mul-memory-in : tie.Need-mul-memory-in
 mul-memory-in c = let place = memory-place _ _ (c .before .before .before .before .before .before .args .address) _ (c .before .before .before .before .map-address .ensures) _ _ (c .before .before .found .given .1) in omega (arith, place .0)
 
--- src/queries.rt:137:32
 array-copy-out-memory-in : tie.Need-array-copy-out-memory-in
 array-copy-out-memory-in c = let place = memory-place _ _ (c .before .before .before .before .before .before .args .address) _ (c .before .before .before .before .map-address .ensures) _ _ (c .before .before .found .given .1) in omega (arith, place .0)
 
--- src/queries.rt:137:13
 memory-in-requires : tie.Need-memory-in-requires
 memory-in-requires c κs = (memory-place _ _ (c .before .before .before .before .before .before .before .args .address) _ (c .before .before .before .before .before .map-address .ensures) _ _ (c .before .before .before .found .given .1)) .1
 
--- src/queries.rt:128:1
 returns : tie.Need-returns
 returns c = c .no-memory .ensures ∙ memory-outside _ _ (c .before .before .before .before .before .args .address) _ (c .before .before .before .map-address .ensures) (c .before .enum-told .given .1)
 
--- src/queries.rt:128:1
 returns-2 : tie.Need-returns-2
 returns-2 c = c .memory-in .ensures ∙ memory-inside _ _ (c .before .before .before .before .before .before .before .before .args .address) _ (c .before .before .before .before .before .before .map-address .ensures) _ _ (c .before .before .before .before .found .given .1)
 

@@ -7,47 +7,36 @@ use Rattle.machine.proofs.queries.request_on.Reads as reads
 use Rattle.machine.proofs.queries.request_on.Lts as lts
 use Rattle.machine.proofs.queries.no_request.Reads as no-request-reads
 
--- src/queries.rt:44:30
 enum-told : tie.Need-enum-told
 enum-told c = search needs
 
--- src/queries.rt:44:30
 no-request-requires : tie.Need-no-request-requires
 no-request-requires c κs = search needs
 
--- src/queries.rt:46:19
 enum-known-state : tie.Need-enum-known-state
 enum-known-state c = search needs
 
--- src/queries.rt:49:16
 cast-if1 : tie.Need-cast-if1
 cast-if1 c = search needs
 
--- src/queries.rt:50:17
 no-request-requires-2 : tie.Need-no-request-requires-2
 no-request-requires-2 c κs = search needs
 
--- src/queries.rt:50:17
 returns : tie.Need-returns
 returns c = c .no-request2 .ensures ∙ request-other (c .before .before .before .before .before .args .area) (c .before .before .before .before .before .args .segment) (c .before .before .before .before .before .args .state) _ _ (c .before .before .before .state .given .1) (c .before .if1 .taken)
 
--- src/queries.rt:60:38
 enum-told-2 : tie.Need-enum-told-2
 enum-told-2 c = search needs
 
--- src/queries.rt:60:38
 no-request-requires-3 : tie.Need-no-request-requires-3
 no-request-requires-3 c κs = search needs
 
--- src/queries.rt:40:1
 returns-2 : tie.Need-returns-2
 returns-2 c = search needs
 
--- src/queries.rt:40:1
 returns-3 : tie.Need-returns-3
 returns-3 c = request-own (c .before .before .before .before .before .args .area) (c .before .before .before .before .before .args .segment) (c .before .before .before .before .before .args .state) _ _ (c .before .before .before .state .given .1) (c .before .if1 .left)
 
--- src/queries.rt:40:1
 returns-4 : tie.Need-returns-4
 returns-4 c = search needs
 

@@ -6,11 +6,9 @@ use Rattle.machine.proofs.questions.image_fits.Reads as reads
 use Rattle.machine.proofs.questions.image_fits.Lts as lts
 use Rattle.plan.proofs.questions.device_sum.Reads as device-sum-reads
 
--- src/questions.rt:88:9
 device-sum-requires : tie.Need-device-sum-requires
 device-sum-requires c κs = search needs
 
--- src/questions.rt:83:1
 returns : tie.Need-returns
 returns c = image-fits _ _ _ (c .device-sum .ensures .0)
 

@@ -10,21 +10,17 @@ use Rattle.machine.proofs.questions.info_admission.Reads as reads
 use Rattle.machine.proofs.questions.info_admission.Lts as lts
 use Rattle.machine.proofs.soundness.is_sound.Reads as is-sound-reads
 
--- src/questions.rt:22:9
 is-sound-requires : tie.Need-is-sound-requires
 is-sound-requires c κs = search needs
 
--- src/questions.rt:23:9
 returns : tie.Need-returns
 unfolding firstNo infoQuestions
 returns c = simp (sym (c .before .is-sound .ensures) ∙ not-true _ (c .if1 .taken))
 
--- src/questions.rt:26:9
 returns-2 : tie.Need-returns-2
 unfolding firstNo infoQuestions
 returns-2 c = simp (sym (c .before .before .before .is-sound .ensures) ∙ not-false _ (c .before .before .if1 .left), le-ltb _ _ (c .if2 .taken))
 
--- src/questions.rt:19:1
 returns-3 : tie.Need-returns-3
 unfolding firstNo infoQuestions
 returns-3 c = simp (sym (c .before .before .before .is-sound .ensures) ∙ not-false _ (c .before .before .if1 .left), lt-ltb _ _ (c .if2 .left))

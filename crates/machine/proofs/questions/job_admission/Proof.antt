@@ -13,42 +13,33 @@ use Rattle.admission.proofs.range_admission.Reads as range-admission-reads
 use Rattle.jobs.proofs.is_pending.Reads as is-pending-reads
 use Rattle.machine.proofs.soundness.is_sound.Reads as is-sound-reads
 
--- src/questions.rt:64:9
 is-sound-requires : tie.Need-is-sound-requires
 is-sound-requires c κs = search needs
 
--- src/questions.rt:65:9
 returns : tie.Need-returns
 unfolding firstNo jobQuestions
 returns c = simp (sym (c .before .is-sound .ensures) ∙ not-true _ (c .if1 .taken))
 
--- src/questions.rt:68:9
 returns-2 : tie.Need-returns-2
 unfolding firstNo jobQuestions
 returns-2 c = simp (sym (c .before .before .before .is-sound .ensures) ∙ not-false _ (c .before .before .if1 .left), le-ltb _ _ (c .if2 .taken))
 
--- src/questions.rt:70:17
 mul-entry : tie.Need-mul-entry
 mul-entry c = let few = sound-few _ _ _ (sym (c .before .before .before .is-sound .ensures) ∙ not-false _ (c .before .before .if1 .left)) in omega (arith, few, c .if2 .left)
 
--- src/questions.rt:70:17
 array-copy-out-entry : tie.Need-array-copy-out-entry
 array-copy-out-entry c = let few = sound-few _ _ _ (sym (c .before .before .before .is-sound .ensures) ∙ not-false _ (c .before .before .if1 .left)) in omega (arith, few, c .if2 .left)
 
--- src/questions.rt:72:8
 is-pending-requires : tie.Need-is-pending-requires
 is-pending-requires c κs = search needs
 
--- src/questions.rt:73:9
 returns-3 : tie.Need-returns-3
 unfolding firstNo jobQuestions
 returns-3 c = simp (sym (c .before .before .before .before .before .before .before .is-sound .ensures) ∙ not-false _ (c .before .before .before .before .before .before .if1 .left), lt-ltb _ _ (c .before .before .before .before .if2 .left), sym (c .before .is-pending .ensures) ∙ c .if3 .taken)
 
--- src/questions.rt:75:5
 range-admission-requires : tie.Need-range-admission-requires
 range-admission-requires c κs = let few = sound-few _ _ _ (sym (c .before .before .before .before .before .before .before .is-sound .ensures) ∙ not-false _ (c .before .before .before .before .before .before .if1 .left)) in omega (arith, few, c .before .before .before .before .if2 .left)
 
--- src/questions.rt:55:1
 returns-4 : tie.Need-returns-4
 returns-4 c = c .range-admission .ensures ∙ job-number _ _ _ _ _ (sym (c .before .before .before .before .before .before .before .before .is-sound .ensures) ∙ not-false _ (c .before .before .before .before .before .before .before .if1 .left)) (lt-ltb _ _ (c .before .before .before .before .before .if2 .left)) (sym (c .before .before .is-pending .ensures) ∙ c .before .if3 .left)
 

@@ -10,31 +10,24 @@ use Rattle.machine.proofs.dues.states_fit.Reads as states-fit-reads
 use Rattle.machine.proofs.questions.image_fits.Reads as image-fits-reads
 use Rattle.machine.proofs.questions.store_reaches.Reads as store-reaches-reads
 
--- src/questions.rt:187:9
 states-fit-requires : tie.Need-states-fit-requires
 states-fit-requires c κs = counts-few (c .before .before .before .before .args .plan) (c .before .before .before .before .pre .0) .0
 
--- src/questions.rt:196:9
 returns : tie.Need-returns
 returns c = round-unsound _ _ _ _ _ (sym (c .before .states-fit .ensures ∙ fits-decide (c .before .before .before .before .before .before .args .plan) (counts-few (c .before .before .before .before .before .before .args .plan) (c .before .before .before .before .before .before .pre .0) .1) (c .before .before .before .before .before .before .args .areas) (c .before .before .before .before .before .before .args .devices) (c .before .before .before .before .before .before .args .dues) (c .before .before .before .before .before .before .pre .1) (c .before .before .before .before .before .before .pre .0)) ∙ not-true _ (c .if1 .taken))
 
--- src/questions.rt:198:9
 image-fits-requires : tie.Need-image-fits-requires
 image-fits-requires c κs = counts-few (c .before .before .before .before .before .before .args .plan) (c .before .before .before .before .before .before .pre .0) .0
 
--- src/questions.rt:199:9
 returns-2 : tie.Need-returns-2
 returns-2 c = round-image _ _ _ _ _ (sym (c .before .before .before .states-fit .ensures ∙ fits-decide (c .before .before .before .before .before .before .before .before .args .plan) (counts-few (c .before .before .before .before .before .before .before .before .args .plan) (c .before .before .before .before .before .before .before .before .pre .0) .1) (c .before .before .before .before .before .before .before .before .args .areas) (c .before .before .before .before .before .before .before .before .args .devices) (c .before .before .before .before .before .before .before .before .args .dues) (c .before .before .before .before .before .before .before .before .pre .1) (c .before .before .before .before .before .before .before .before .pre .0)) ∙ not-false _ (c .before .before .if1 .left)) (sym (c .before .image-fits .ensures) ∙ not-true _ (c .if2 .taken))
 
--- src/questions.rt:201:9
 store-reaches-requires : tie.Need-store-reaches-requires
 store-reaches-requires c κs = counts-few (c .before .before .before .before .before .before .before .before .args .plan) (c .before .before .before .before .before .before .before .before .pre .0) .1
 
--- src/questions.rt:202:9
 returns-3 : tie.Need-returns-3
 returns-3 c = round-store _ _ _ _ _ (sym (c .before .before .before .before .before .states-fit .ensures ∙ fits-decide (c .before .before .before .before .before .before .before .before .before .before .args .plan) (counts-few (c .before .before .before .before .before .before .before .before .before .before .args .plan) (c .before .before .before .before .before .before .before .before .before .before .pre .0) .1) (c .before .before .before .before .before .before .before .before .before .before .args .areas) (c .before .before .before .before .before .before .before .before .before .before .args .devices) (c .before .before .before .before .before .before .before .before .before .before .args .dues) (c .before .before .before .before .before .before .before .before .before .before .pre .1) (c .before .before .before .before .before .before .before .before .before .before .pre .0)) ∙ not-false _ (c .before .before .before .before .if1 .left)) (sym (c .before .before .before .image-fits .ensures) ∙ not-false _ (c .before .before .if2 .left)) (sym (c .before .store-reaches .ensures) ∙ not-true _ (c .if3 .taken))
 
--- src/questions.rt:174:1
 returns-4 : tie.Need-returns-4
 returns-4 c = round-accepted _ _ _ _ _ (sym (c .before .before .before .before .before .states-fit .ensures ∙ fits-decide (c .before .before .before .before .before .before .before .before .before .before .args .plan) (counts-few (c .before .before .before .before .before .before .before .before .before .before .args .plan) (c .before .before .before .before .before .before .before .before .before .before .pre .0) .1) (c .before .before .before .before .before .before .before .before .before .before .args .areas) (c .before .before .before .before .before .before .before .before .before .before .args .devices) (c .before .before .before .before .before .before .before .before .before .before .args .dues) (c .before .before .before .before .before .before .before .before .before .before .pre .1) (c .before .before .before .before .before .before .before .before .before .before .pre .0)) ∙ not-false _ (c .before .before .before .before .if1 .left)) (sym (c .before .before .before .image-fits .ensures) ∙ not-false _ (c .before .before .if2 .left)) (sym (c .before .store-reaches .ensures) ∙ not-false _ (c .if3 .left))
 

@@ -21,41 +21,32 @@ Inv-loop plan store records a₀ a = (a ≤ plan .«area_count») × (records �
 abbrev μ-loop : tie.MeasureT-loop
 μ-loop plan store records a₀ a = plan .«area_count» - a
 
--- src/questions.rt:163:5
 loop-holds : tie.Need-loop-holds Inv-loop μ-loop
 unfolding every
 loop-holds c = (omega arith, refl, refl)
 
--- src/questions.rt:164:22
 mul-record : tie.Need-mul-record Inv-loop μ-loop
 mul-record c = search needs
 
--- src/questions.rt:164:22
 array-copy-out-record : tie.Need-array-copy-out-record Inv-loop μ-loop
 array-copy-out-record c = search needs
 
--- src/questions.rt:165:35
 window-end-requires : tie.Need-window-end-requires Inv-loop μ-loop
 window-end-requires c κs = search needs
 
--- src/questions.rt:166:13
 returns : tie.Need-returns Inv-loop μ-loop
 unfolding storeReaches
 returns c = sym (every-fails _ _ _ (omega arith) (window-missed _ _ _ (c .before .window-end .ensures ∙ ap (λ l. windowEnd (areaOf l (c .before .before .before .before .before .loop .a))) (c .before .before .before .before .before .loop .inv .1)) (c .if2 .taken)))
 
--- src/questions.rt:168:9
 add-a : tie.Need-add-a Inv-loop μ-loop
 add-a c = search needs
 
--- src/questions.rt:163:5
 loop-less : tie.Need-loop-less Inv-loop μ-loop
 loop-less c = search needs
 
--- src/questions.rt:163:5
 loop-again : tie.Need-loop-again Inv-loop μ-loop
 loop-again c = (omega arith, c .before .before .before .before .before .loop .inv .1, every-more _ _ (c .before .before .before .before .before .loop .inv .2) (window-reached _ _ _ (c .before .window-end .ensures ∙ ap (λ l. windowEnd (areaOf l (c .before .before .before .before .before .loop .a))) (c .before .before .before .before .before .loop .inv .1)) (c .if2 .left)))
 
--- src/questions.rt:157:1
 returns-2 : tie.Need-returns-2 Inv-loop μ-loop
 unfolding storeReaches
 returns-2 c = sym (ap (every _) (omega arith) ∙ c .before .before .loop .inv .2)

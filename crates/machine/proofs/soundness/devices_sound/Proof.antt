@@ -22,76 +22,58 @@ Inv-loop plan areas devices device-records area-records sum d₀ d = (d ≤ plan
 abbrev μ-loop : tie.MeasureT-loop
 μ-loop plan areas devices device-records area-records sum d₀ d = plan .«device_count» - d
 
--- src/soundness.rt:133:9
 device-sum-requires : tie.Need-device-sum-requires Inv-loop μ-loop
 device-sum-requires c κs = search needs
 
--- src/soundness.rt:135:5
 loop-holds : tie.Need-loop-holds Inv-loop μ-loop
 unfolding every
 loop-holds c = (omega arith, refl, refl, refl)
 
--- src/soundness.rt:136:22
 mul-device : tie.Need-mul-device Inv-loop μ-loop
 mul-device c = search needs
 
--- src/soundness.rt:136:22
 array-copy-out-device : tie.Need-array-copy-out-device Inv-loop μ-loop
 array-copy-out-device c = search needs
 
--- src/soundness.rt:138:13
 runner-requires : tie.Need-runner-requires Inv-loop μ-loop
 runner-requires c κs = search needs
 
--- src/soundness.rt:139:21
 mul-entry : tie.Need-mul-entry Inv-loop μ-loop
 mul-entry c = search needs
 
--- src/soundness.rt:139:21
 array-copy-out-entry : tie.Need-array-copy-out-entry Inv-loop μ-loop
 array-copy-out-entry c = search needs
 
--- src/soundness.rt:141:13
 running-segment-requires : tie.Need-running-segment-requires Inv-loop μ-loop
 running-segment-requires c κs = search needs
 
--- src/soundness.rt:142:29
 mul-device-record : tie.Need-mul-device-record Inv-loop μ-loop
 mul-device-record c = search needs
 
--- src/soundness.rt:142:29
 array-copy-out-device-record : tie.Need-array-copy-out-device-record Inv-loop μ-loop
 array-copy-out-device-record c = search needs
 
--- src/soundness.rt:143:27
 mul-area-record : tie.Need-mul-area-record Inv-loop μ-loop
 mul-area-record c = search needs
 
--- src/soundness.rt:143:27
 array-copy-out-area-record : tie.Need-array-copy-out-area-record Inv-loop μ-loop
 array-copy-out-area-record c = search needs
 
--- src/soundness.rt:144:13
 state-fits-requires : tie.Need-state-fits-requires Inv-loop μ-loop
 state-fits-requires c κs = c .before .before .before .before .before .before .before .before .before .before .device-sum .ensures .1
 
--- src/soundness.rt:154:13
 returns : tie.Need-returns Inv-loop μ-loop
 returns c = sym (every-fails _ _ _ (omega arith) (sym (c .before .state-fits .ensures ∙ running-decides (c .before .before .before .before .before .before .before .before .before .before .before .before .before .before .before .args .plan) (c .before .before .before .before .before .before .before .before .before .before .before .before .before .before .before .pre .1) _ (c .before .before .before .before .before .before .before .before .before .before .before .loop .inv .1) _ (c .before .before .before .before .before .before .before .before .before .before .before .loop .inv .2) (c .before .before .before .before .before .before .before .before .before .before .before .before .device-sum .result) (c .before .before .before .before .before .before .before .before .before .before .before .before .device-sum .ensures .0) (c .before .before .before .before .before .before .before .before .before .before .before .loop .d) (c .before .before .before .before .before .before .before .before .before .before .before .before .before .before .before .args .t2) (stateIn (c .before .before .before .before .before .before .before .before .before .before .before .before .before .before .before .args .t3) (c .before .before .before .before .before .before .before .before .before .before .before .loop .d)) (c .before .before .before .before .before .before .before .runner .result) (c .before .before .before .before .before .before .before .runner .ensures .0) (c .before .before .before .before .running-segment .result) (c .before .before .before .before .running-segment .ensures)) ∙ not-true (c .before .state-fits .result) (c .if2 .taken)))
 
--- src/soundness.rt:156:9
 add-d : tie.Need-add-d Inv-loop μ-loop
 add-d c = search needs
 
--- src/soundness.rt:135:5
 loop-less : tie.Need-loop-less Inv-loop μ-loop
 loop-less c = search needs
 
--- src/soundness.rt:135:5
 loop-again : tie.Need-loop-again Inv-loop μ-loop
 loop-again c = (omega arith, c .before .before .before .before .before .before .before .before .before .before .before .loop .inv .1, c .before .before .before .before .before .before .before .before .before .before .before .loop .inv .2, every-more _ _ (c .before .before .before .before .before .before .before .before .before .before .before .loop .inv .3) (sym (c .before .state-fits .ensures ∙ running-decides (c .before .before .before .before .before .before .before .before .before .before .before .before .before .before .before .args .plan) (c .before .before .before .before .before .before .before .before .before .before .before .before .before .before .before .pre .1) _ (c .before .before .before .before .before .before .before .before .before .before .before .loop .inv .1) _ (c .before .before .before .before .before .before .before .before .before .before .before .loop .inv .2) (c .before .before .before .before .before .before .before .before .before .before .before .before .device-sum .result) (c .before .before .before .before .before .before .before .before .before .before .before .before .device-sum .ensures .0) (c .before .before .before .before .before .before .before .before .before .before .before .loop .d) (c .before .before .before .before .before .before .before .before .before .before .before .before .before .before .before .args .t2) (stateIn (c .before .before .before .before .before .before .before .before .before .before .before .before .before .before .before .args .t3) (c .before .before .before .before .before .before .before .before .before .before .before .loop .d)) (c .before .before .before .before .before .before .before .runner .result) (c .before .before .before .before .before .before .before .runner .ensures .0) (c .before .before .before .before .running-segment .result) (c .before .before .before .before .running-segment .ensures)) ∙ not-false (c .before .state-fits .result) (c .if2 .left)))
 
--- src/soundness.rt:127:1
 returns-2 : tie.Need-returns-2 Inv-loop μ-loop
 returns-2 c = sym (ap (every _) (omega arith) ∙ c .before .before .loop .inv .3)
 

@@ -11,19 +11,15 @@ use Rattle.machine.proofs.soundness.is_sound.Lts as lts
 use Rattle.machine.proofs.soundness.devices_sound.Reads as devices-sound-reads
 use Rattle.plan.proofs.checks.counts_fit.Reads as counts-fit-reads
 
--- src/soundness.rt:115:9
 counts-fit-requires : tie.Need-counts-fit-requires
 counts-fit-requires c κs = search needs
 
--- src/soundness.rt:116:9
 returns : tie.Need-returns
 returns c = other-counts _ _ _ (sym (c .before .counts-fit .ensures) ∙ not-true _ (c .if1 .taken))
 
--- src/soundness.rt:118:5
 devices-sound-requires : tie.Need-devices-sound-requires
 devices-sound-requires c κs = let few = counts _ _ _ (sym (c .before .counts-fit .ensures) ∙ not-false _ (c .if1 .left)) in omega (arith, few)
 
--- src/soundness.rt:112:1
 returns-2 : tie.Need-returns-2
 returns-2 c = c .devices-sound .ensures ∙ devices-decide _ _ _ (sym (c .before .before .counts-fit .ensures) ∙ not-false _ (c .before .if1 .left))
 

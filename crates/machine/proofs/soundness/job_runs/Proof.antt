@@ -7,25 +7,20 @@ use Rattle.machine.proofs.soundness.job_runs.Lts as lts
 use Rattle.jobs.proofs.is_pending.Reads as is-pending-reads
 use Rattle.segment.proofs.is_lock.Reads as is-lock-reads
 
--- src/soundness.rt:12:9
 is-pending-requires : tie.Need-is-pending-requires
 is-pending-requires c κs = search needs
 
--- src/soundness.rt:13:9
 returns : tie.Need-returns
 unfolding Rattle.machine.specs.Sound.jobRuns
 returns c = simp (not-true (c .before .is-pending .result) (c .if1 .taken), ← (c .before .is-pending .ensures))
 
--- src/soundness.rt:17:8
 is-lock-requires : tie.Need-is-lock-requires
 is-lock-requires c κs = search needs
 
--- src/soundness.rt:18:9
 returns-2 : tie.Need-returns-2
 unfolding Rattle.machine.specs.Sound.jobRuns
 returns-2 c = simp (c .if2 .taken, ← (c .before .is-lock .ensures), not-false (c .before .before .before .before .is-pending .result) (c .before .before .before .if1 .left), ← (c .before .before .before .before .is-pending .ensures))
 
--- src/soundness.rt:9:1
 returns-3 : tie.Need-returns-3
 unfolding Rattle.machine.specs.Sound.jobRuns
 returns-3 c = simp (c .if2 .left, ← (c .before .is-lock .ensures), not-false (c .before .before .before .before .is-pending .result) (c .before .before .before .if1 .left), ← (c .before .before .before .before .is-pending .ensures))

@@ -8,51 +8,39 @@ use Rattle.machine.proofs.soundness.running_segment.Lts as lts
 use Rattle.segment.proofs.no_segment.Reads as no-segment-reads
 use Rattle.segment.proofs.segment_at.Reads as segment-at-reads
 
--- src/soundness.rt:115:30
 enum-told : tie.Need-enum-told
 enum-told c = search needs
 
--- src/soundness.rt:115:30
 no-segment-requires : tie.Need-no-segment-requires
 no-segment-requires c κs = search needs
 
--- src/soundness.rt:116:38
 enum-told-2 : tie.Need-enum-told-2
 enum-told-2 c = search needs
 
--- src/soundness.rt:116:38
 no-segment-requires-2 : tie.Need-no-segment-requires-2
 no-segment-requires-2 c κs = search needs
 
--- src/soundness.rt:117:29
 enum-known-state : tie.Need-enum-known-state
 enum-known-state c = search needs
 
--- src/soundness.rt:119:17
 no-segment-requires-3 : tie.Need-no-segment-requires-3
 no-segment-requires-3 c κs = search needs
 
--- src/soundness.rt:119:17
 returns : tie.Need-returns
 returns c = c .no-segment3 .ensures ∙ simp (c .before .before .before .state .given .1, le-ltb _ _ (c .before .if1 .taken))
 
--- src/soundness.rt:122:30
 cast-segment-at : tie.Need-cast-segment-at
 cast-segment-at c = search needs
 
--- src/soundness.rt:122:13
 segment-at-requires : tie.Need-segment-at-requires
 segment-at-requires c κs = search needs
 
--- src/soundness.rt:110:1
 returns-2 : tie.Need-returns-2
 returns-2 c = search needs
 
--- src/soundness.rt:110:1
 returns-3 : tie.Need-returns-3
 returns-3 c = search needs
 
--- src/soundness.rt:110:1
 returns-4 : tie.Need-returns-4
 returns-4 c = c .segment-at .ensures ∙ simp (c .before .before .before .before .state .given .1, lt-ltb _ _ (c .before .before .if1 .left))
 

@@ -9,47 +9,36 @@ use Rattle.machine.proofs.soundness.segment_fits.Reads as reads
 use Rattle.machine.proofs.soundness.segment_fits.Lts as lts
 use Rattle.admission.proofs.uses_window.Reads as uses-window-reads
 
--- src/soundness.rt:38:8
 cast-if1 : tie.Need-cast-if1
 cast-if1 c = search needs
 
--- src/soundness.rt:39:9
 returns : tie.Need-returns
 returns c = other-device (c .before .before .args .sum) (c .before .before .args .window) (c .before .before .args .device) (c .before .before .args .job) (c .before .before .args .segment) (c .if1 .taken)
 
--- src/soundness.rt:42:9
 returns-2 : tie.Need-returns-2
 returns-2 c = past-image (c .before .before .before .before .args .sum) (c .before .before .before .before .args .window) (c .before .before .before .before .args .device) (c .before .before .before .before .args .job) (c .before .before .before .before .args .segment) (c .before .before .if1 .left) (omega (arith, c .if2 .taken))
 
--- src/soundness.rt:45:9
 returns-3 : tie.Need-returns-3
 returns-3 c = past-image (c .before .before .before .before .before .before .before .args .sum) (c .before .before .before .before .before .before .before .args .window) (c .before .before .before .before .before .before .before .args .device) (c .before .before .before .before .before .before .before .args .job) (c .before .before .before .before .before .before .before .args .segment) (c .before .before .before .before .before .if1 .left) (omega (arith, c .before .before .before .if2 .left, c .if3 .taken))
 
--- src/soundness.rt:48:17
 cast-upto : tie.Need-cast-upto
 cast-upto c = search needs
 
--- src/soundness.rt:48:16
 add-upto : tie.Need-add-upto
 add-upto c = omega (arith, c .before .before .before .before .before .before .before .before .before .before .pre, c .before .before .before .before .before .before .if2 .left, c .before .before .before .if3 .left)
 
--- src/soundness.rt:49:9
 cast-if4 : tie.Need-cast-if4
 cast-if4 c = search needs
 
--- src/soundness.rt:50:9
 returns-4 : tie.Need-returns-4
 returns-4 c = past-job (c .before .before .before .before .before .before .before .before .before .before .before .before .args .sum) (c .before .before .before .before .before .before .before .before .before .before .before .before .args .window) (c .before .before .before .before .before .before .before .before .before .before .before .before .args .device) (c .before .before .before .before .before .before .before .before .before .before .before .before .args .job) (c .before .before .before .before .before .before .before .before .before .before .before .before .args .segment) (c .before .before .before .before .before .before .before .before .before .before .if1 .left) (omega (arith, c .before .before .before .before .before .before .before .before .if2 .left, c .before .before .before .before .before .if3 .left)) (omega (arith, c .if4 .taken))
 
--- src/soundness.rt:53:9
 uses-window-requires : tie.Need-uses-window-requires
 uses-window-requires c κs = search needs
 
--- src/soundness.rt:54:9
 returns-5 : tie.Need-returns-5
 returns-5 c = no-window (c .before .before .before .before .before .before .before .before .before .before .before .before .before .before .args .sum) (c .before .before .before .before .before .before .before .before .before .before .before .before .before .before .args .window) (c .before .before .before .before .before .before .before .before .before .before .before .before .before .before .args .device) (c .before .before .before .before .before .before .before .before .before .before .before .before .before .before .args .job) (c .before .before .before .before .before .before .before .before .before .before .before .before .before .before .args .segment) (c .before .before .before .before .before .before .before .before .before .before .before .before .if1 .left) (omega (arith, c .before .before .before .before .before .before .before .before .before .before .if2 .left, c .before .before .before .before .before .before .before .if3 .left)) (omega (arith, c .before .before .if4 .left)) (sym (c .before .uses-window .ensures) ∙ not-true _ (c .if5 .taken))
 
--- src/soundness.rt:34:1
 returns-6 : tie.Need-returns-6
 returns-6 c = window-decides (c .before .before .before .before .before .before .before .before .before .before .before .before .before .before .args .sum) (c .before .before .before .before .before .before .before .before .before .before .before .before .before .before .args .window) (c .before .before .before .before .before .before .before .before .before .before .before .before .before .before .args .device) (c .before .before .before .before .before .before .before .before .before .before .before .before .before .before .args .job) (c .before .before .before .before .before .before .before .before .before .before .before .before .before .before .args .segment) (c .before .before .before .before .before .before .before .before .before .before .before .before .if1 .left) (omega (arith, c .before .before .before .before .before .before .before .before .before .before .if2 .left, c .before .before .before .before .before .before .before .if3 .left)) (omega (arith, c .before .before .if4 .left)) (sym (c .before .uses-window .ensures) ∙ not-false _ (c .if5 .left))
 

@@ -12,34 +12,27 @@ use Rattle.machine.proofs.devices.cancelled_job.Reads as cancelled-job-reads
 use Rattle.machine.proofs.questions.cancel_admission.Reads as cancel-admission-reads
 use Rattle.manager.proofs.Manager.with_job.Reads as with-job-reads
 
--- src/lib.rt:84:13
 cancel-admission-requires : tie.Need-cancel-admission-requires
 cancel-admission-requires c κs = search needs
 
--- src/lib.rt:86:38
 enum-told : tie.Need-enum-told
 enum-told c = search needs
 
--- src/lib.rt:91:21
 enum-told-2 : tie.Need-enum-told-2
 enum-told-2 c = search needs
 
--- src/lib.rt:91:21
 cancelled-job-requires : tie.Need-cancelled-job-requires
 unfolding cancelNumberOf
 cancelled-job-requires c κs = cancel-few (c .before .before .before .before .before .before .args .self) (c .before .before .before .before .before .before .args .area) (sym (c .before .before .cancel-admission .ensures) ∙ ap admissionNumber (c .enum-told2 .given .1))
 
--- src/lib.rt:92:21
 with-job-requires : tie.Need-with-job-requires
 unfolding cancelNumberOf
 with-job-requires c κs = cancel-few (c .before .before .before .before .before .before .before .args .self) (c .before .before .before .before .before .before .before .args .area) (sym (c .before .before .before .cancel-admission .ensures) ∙ ap admissionNumber (c .before .enum-told2 .given .1)) .1
 
--- src/lib.rt:77:5
 returns : tie.Need-returns
 unfolding cancelNumberOf
 returns c = (c .before .before .cancel-admission .ensures, cancel-refused (c .before .before .before .before .before .before .args .self) (c .before .before .before .before .before .before .args .area) (refused-some _ _ (c .enum-told .given .1) _ (c .before .before .cancel-admission .ensures)))
 
--- src/lib.rt:77:5
 returns-2 : tie.Need-returns-2
 unfolding cancelNumberOf
 returns-2 c = (c .before .before .before .before .cancel-admission .ensures, c .with-job .ensures ∙ ap (λ j. withArea (c .before .before .before .before .before .before .before .before .args .area) j (waitsIn (c .before .before .before .before .before .before .before .before .args .self .areas) (c .before .before .before .before .before .before .before .before .args .area)) (c .before .before .before .before .before .before .before .before .args .self)) (c .before .cancelled-job .ensures) ∙ cancel-accepted (c .before .before .before .before .before .before .before .before .args .self) (c .before .before .before .before .before .before .before .before .args .area) (sym (c .before .before .before .before .cancel-admission .ensures) ∙ ap admissionNumber (c .before .before .enum-told2 .given .1)))

@@ -7,15 +7,12 @@ use Rattle.manager.proofs.Manager.fresh.Lts as lts
 use Rattle.state.proofs.Area.fresh.Reads as fresh-reads
 use Rattle.state.proofs.Device.free.Reads as free-reads
 
--- src/lib.rt:29:22
 fresh-requires : tie.Need-fresh-requires
 fresh-requires c κs = search needs
 
--- src/lib.rt:30:24
 free-requires : tie.Need-free-requires
 free-requires c κs = search needs
 
--- src/lib.rt:26:5
 returns : tie.Need-returns
 unfolding freshManager
 returns c = rw (c .before .fresh .ensures, c .free .ensures)

@@ -10,31 +10,24 @@ use Rattle.machine.proofs.queries.job_info.Reads as job-info-reads
 use Rattle.manager.proofs.Manager.query_admission.Reads as query-admission-reads
 use Rattle.manager.proofs.no_job_info.Reads as no-job-info-reads
 
--- src/lib.rt:383:13
 query-admission-requires : tie.Need-query-admission-requires
 query-admission-requires c κs = search needs
 
--- src/lib.rt:386:21
 enum-told : tie.Need-enum-told
 enum-told c = search needs
 
--- src/lib.rt:386:21
 no-job-info-requires : tie.Need-no-job-info-requires
 no-job-info-requires c κs = search needs
 
--- src/lib.rt:390:21
 enum-told-2 : tie.Need-enum-told-2
 enum-told-2 c = search needs
 
--- src/lib.rt:393:21
 job-info-requires : tie.Need-job-info-requires
 job-info-requires c κs = info-few (c .before .before .before .before .before .before .args .self) (c .before .before .before .before .before .before .args .area) (sym (c .before .before .before .before .before .query-admission .ensures) ∙ ap admissionNumber (c .before .before .before .enum-told2 .given .1))
 
--- src/lib.rt:379:5
 returns : tie.Need-returns
 returns c = (c .before .before .before .query-admission .ensures, c .no-job-info .ensures ∙ info-refused (c .before .before .before .before .args .self) (c .before .before .before .before .args .area) (refused-some _ _ (c .before .enum-told .given .1) _ (c .before .before .before .query-admission .ensures)))
 
--- src/lib.rt:379:5
 returns-2 : tie.Need-returns-2
 returns-2 c = (c .before .before .before .before .before .before .query-admission .ensures, c .job-info .ensures ∙ info-accepted (c .before .before .before .before .before .before .before .args .self) (c .before .before .before .before .before .before .before .args .area) (sym (c .before .before .before .before .before .before .query-admission .ensures) ∙ ap admissionNumber (c .before .before .before .before .enum-told2 .given .1)))
 

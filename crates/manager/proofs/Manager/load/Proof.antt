@@ -8,15 +8,12 @@ use Rattle.manager.proofs.Manager.load.Lts as lts
 use Rattle.manager.proofs.Manager.fresh.Reads as fresh-reads
 use Rattle.plan.proofs.load.load_plan.Reads as load-plan-reads
 
--- src/lib.rt:42:13
 load-plan-requires : tie.Need-load-plan-requires
 load-plan-requires c κs = search needs
 
--- src/lib.rt:45:13
 fresh-requires : tie.Need-fresh-requires
 fresh-requires c κs = search needs
 
--- src/lib.rt:38:5
 returns : tie.Need-returns
 returns c =
     let l = c .before .before .load-plan .ensures in

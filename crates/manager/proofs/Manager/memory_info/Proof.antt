@@ -11,33 +11,26 @@ use Rattle.machine.proofs.queries.memory_info.Reads as memory-info-reads
 use Rattle.machine.proofs.queries.no_memory.Reads as no-memory-reads
 use Rattle.machine.proofs.questions.memory_admission.Reads as memory-admission-reads
 
--- src/lib.rt:406:13
 memory-admission-requires : tie.Need-memory-admission-requires
 memory-admission-requires c κs = search needs
 
--- src/lib.rt:409:21
 enum-told : tie.Need-enum-told
 enum-told c = search needs
 
--- src/lib.rt:409:21
 no-memory-requires : tie.Need-no-memory-requires
 no-memory-requires c κs = search needs
 
--- src/lib.rt:413:21
 enum-told-2 : tie.Need-enum-told-2
 enum-told-2 c = search needs
 
--- src/lib.rt:413:21
 memory-info-requires : tie.Need-memory-info-requires
 unfolding memoryInfoNumberOf
 memory-info-requires c κs = memory-few (c .before .before .before .before .before .before .args .self) (c .before .before .before .before .before .before .args .area) (c .before .before .before .before .before .before .args .address) (sym (c .before .before .memory-admission .ensures) ∙ ap admissionNumber (c .enum-told2 .given .1))
 
--- src/lib.rt:399:5
 returns : tie.Need-returns
 unfolding memoryInfoNumberOf
 returns c = (c .before .before .before .memory-admission .ensures, c .no-memory .ensures ∙ memory-refused (c .before .before .before .before .before .before .before .args .self) (c .before .before .before .before .before .before .before .args .area) (c .before .before .before .before .before .before .before .args .address) (refused-some _ _ (c .before .enum-told .given .1) _ (c .before .before .before .memory-admission .ensures)))
 
--- src/lib.rt:399:5
 returns-2 : tie.Need-returns-2
 unfolding memoryInfoNumberOf
 returns-2 c = (c .before .before .before .memory-admission .ensures, c .memory-info .ensures ∙ memory-accepted (c .before .before .before .before .before .before .before .args .self) (c .before .before .before .before .before .before .before .args .area) (c .before .before .before .before .before .before .before .args .address) (sym (c .before .before .before .memory-admission .ensures) ∙ ap admissionNumber (c .before .enum-told2 .given .1)))

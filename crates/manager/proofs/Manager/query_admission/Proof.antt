@@ -6,11 +6,9 @@ use Rattle.manager.proofs.Manager.query_admission.Reads as reads
 use Rattle.manager.proofs.Manager.query_admission.Lts as lts
 use Rattle.machine.proofs.questions.info_admission.Reads as info-admission-reads
 
--- src/lib.rt:319:9
 info-admission-requires : tie.Need-info-admission-requires
 info-admission-requires c κs = search needs
 
--- src/lib.rt:313:5
 returns : tie.Need-returns
 unfolding infoNumberOf
 returns c = c .info-admission .ensures

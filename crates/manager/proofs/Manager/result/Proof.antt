@@ -9,26 +9,21 @@ use Rattle.manager.proofs.Manager.result.Lts as lts
 use Rattle.manager.proofs.Manager.job_of.Reads as job-of-reads
 use Rattle.manager.proofs.Manager.query_admission.Reads as query-admission-reads
 
--- src/lib.rt:345:13
 query-admission-requires : tie.Need-query-admission-requires
 query-admission-requires c κs = search needs
 
 enum-told : tie.Need-enum-told
 enum-told c = search needs
 
--- src/lib.rt:352:21
 enum-told-2 : tie.Need-enum-told-2
 enum-told-2 c = search needs
 
--- src/lib.rt:352:21
 job-of-requires : tie.Need-job-of-requires
 job-of-requires c κs = info-few (c .before .before .before .args .self) (c .before .before .before .args .area) (sym (c .before .before .query-admission .ensures) ∙ ap admissionNumber (c .enum-told2 .given .1)) .1
 
--- src/lib.rt:341:5
 returns : tie.Need-returns
 returns c = (c .before .before .query-admission .ensures, result-refused (c .before .before .before .args .self) (c .before .before .before .args .area) (refused-some _ _ (c .enum-told .given .1) _ (c .before .before .query-admission .ensures)))
 
--- src/lib.rt:341:5
 returns-2 : tie.Need-returns-2
 returns-2 c = (c .before .before .before .before .query-admission .ensures, result-accepted (c .before .before .before .before .before .args .self) (c .before .before .before .before .before .args .area) (sym (c .before .before .before .before .query-admission .ensures) ∙ ap admissionNumber (c .before .before .enum-told2 .given .1)) _ (c .before .job-of .ensures))
 

@@ -11,45 +11,35 @@ use Rattle.manager.proofs.Manager.round.Lts as lts
 use Rattle.machine.proofs.questions.round_admission.Reads as round-admission-reads
 use Rattle.rounds.proofs.halves.run_round.Reads as run-round-reads
 
--- src/lib.rt:433:13
 round-admission-requires : tie.Need-round-admission-requires
 round-admission-requires c κs = search needs
 
--- src/lib.rt:436:38
 enum-told : tie.Need-enum-told
 enum-told c = search needs
 
--- src/lib.rt:441:21
 enum-told-2 : tie.Need-enum-told-2
 enum-told-2 c = search needs
 
--- src/lib.rt:442:21
 run-round-requires : tie.Need-run-round-requires
 unfolding roundNumberOf
 run-round-requires c κs = let asked = round-asked (c .before .before .before .before .before .before .before .before .before .before .before .before .before .args .self) (c .before .before .before .before .before .before .before .before .before .before .before .before .before .args .answers) (memoryOf (c .before .before .before .before .before .before .before .before .before .before .before .before .before .args .image .now) (c .before .before .before .before .before .before .before .before .before .before .before .before .before .args .store .now)) (sym (c .before .before .before .before .before .round-admission .ensures .0) ∙ ap admissionNumber (c .before .before .before .enum-told2 .given .1)) in (asked .0, asked .1, asked .2, c .before .before .before .before .before .round-admission .ensures .1 (asked .0))
 
--- src/lib.rt:424:5
 same-length : tie.Need-same-length
 same-length c = search needs
 
--- src/lib.rt:424:5
 same-length-2 : tie.Need-same-length-2
 same-length-2 c = search needs
 
--- src/lib.rt:424:5
 returns : tie.Need-returns
 unfolding roundNumberOf
 returns c = (c .before .before .round-admission .ensures .0, (round-refused (c .before .before .before .before .before .before .before .before .before .before .args .self) (c .before .before .before .before .before .before .before .before .before .before .args .answers) (memoryOf (c .before .before .before .before .before .before .before .before .before .before .args .image .now) (c .before .before .before .before .before .before .before .before .before .before .args .store .now)) (refused-some _ _ (c .enum-told .given .1) _ (c .before .before .round-admission .ensures .0)), (ap (λ x. x .image) (round-memory-refused (c .before .before .before .before .before .before .before .before .before .before .args .self) (c .before .before .before .before .before .before .before .before .before .before .args .answers) (memoryOf (c .before .before .before .before .before .before .before .before .before .before .args .image .now) (c .before .before .before .before .before .before .before .before .before .before .args .store .now)) (refused-some _ _ (c .enum-told .given .1) _ (c .before .before .round-admission .ensures .0))), ap (λ x. x .store) (round-memory-refused (c .before .before .before .before .before .before .before .before .before .before .args .self) (c .before .before .before .before .before .before .before .before .before .before .args .answers) (memoryOf (c .before .before .before .before .before .before .before .before .before .before .args .image .now) (c .before .before .before .before .before .before .before .before .before .before .args .store .now)) (refused-some _ _ (c .enum-told .given .1) _ (c .before .before .round-admission .ensures .0))))))
 
--- src/lib.rt:424:5
 same-length-3 : tie.Need-same-length-3
 same-length-3 c = search needs
 
--- src/lib.rt:424:5
 same-length-4 : tie.Need-same-length-4
 same-length-4 c = search needs
 
--- src/lib.rt:424:5
 returns-2 : tie.Need-returns-2
 unfolding roundNumberOf
 returns-2 c = (c .before .before .before .before .before .before .before .before .before .before .before .before .round-admission .ensures .0, (round-accepted (c .before .before .before .before .before .before .before .before .before .before .before .before .before .before .before .before .before .before .before .before .args .self) (c .before .before .before .before .before .before .before .before .before .before .before .before .before .before .before .before .before .before .before .before .args .answers) (memoryOf (c .before .before .before .before .before .before .before .before .before .before .before .before .before .before .before .before .before .before .before .before .args .image .now) (c .before .before .before .before .before .before .before .before .before .before .before .before .before .before .before .before .before .before .before .before .args .store .now)) (sym (c .before .before .before .before .before .before .before .before .before .before .before .before .round-admission .ensures .0) ∙ ap admissionNumber (c .before .before .before .before .before .before .before .before .before .before .enum-told2 .given .1)) (c .before .before .before .before .before .before .run-round .result .areas) (c .before .before .before .before .before .before .run-round .result .devices) (c .before .before .before .before .before .before .run-round .ensures .0) (c .before .before .before .before .before .before .run-round .ensures .1 .0), (c .before .before .before .before .before .before .run-round .ensures .1 .1 .0 ∙ ap (λ x. x .image) (round-memory-accepted (c .before .before .before .before .before .before .before .before .before .before .before .before .before .before .before .before .before .before .before .before .args .self) (c .before .before .before .before .before .before .before .before .before .before .before .before .before .before .before .before .before .before .before .before .args .answers) (memoryOf (c .before .before .before .before .before .before .before .before .before .before .before .before .before .before .before .before .before .before .before .before .args .image .now) (c .before .before .before .before .before .before .before .before .before .before .before .before .before .before .before .before .before .before .before .before .args .store .now)) (sym (c .before .before .before .before .before .before .before .before .before .before .before .before .round-admission .ensures .0) ∙ ap admissionNumber (c .before .before .before .before .before .before .before .before .before .before .enum-told2 .given .1))), c .before .before .before .before .before .before .run-round .ensures .1 .1 .1 ∙ ap (λ x. x .store) (round-memory-accepted (c .before .before .before .before .before .before .before .before .before .before .before .before .before .before .before .before .before .before .before .before .args .self) (c .before .before .before .before .before .before .before .before .before .before .before .before .before .before .before .before .before .before .before .before .args .answers) (memoryOf (c .before .before .before .before .before .before .before .before .before .before .before .before .before .before .before .before .before .before .before .before .args .image .now) (c .before .before .before .before .before .before .before .before .before .before .before .before .before .before .before .before .before .before .before .before .args .store .now)) (sym (c .before .before .before .before .before .before .before .before .before .before .before .before .round-admission .ensures .0) ∙ ap admissionNumber (c .before .before .before .before .before .before .before .before .before .before .enum-told2 .given .1))))))

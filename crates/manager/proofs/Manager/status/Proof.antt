@@ -10,31 +10,24 @@ use Rattle.manager.proofs.Manager.job_of.Reads as job-of-reads
 use Rattle.manager.proofs.Manager.query_admission.Reads as query-admission-reads
 use Rattle.memory.proofs.JobStatus.number.Reads as number-reads
 
--- src/lib.rt:326:13
 query-admission-requires : tie.Need-query-admission-requires
 query-admission-requires c κs = search needs
 
--- src/lib.rt:328:38
 enum-told : tie.Need-enum-told
 enum-told c = search needs
 
--- src/lib.rt:330:21
 enum-told-2 : tie.Need-enum-told-2
 enum-told-2 c = search needs
 
--- src/lib.rt:330:21
 job-of-requires : tie.Need-job-of-requires
 job-of-requires c κs = info-few (c .before .before .before .args .self) (c .before .before .before .args .area) (sym (c .before .before .query-admission .ensures) ∙ ap admissionNumber (c .enum-told2 .given .1)) .1
 
--- src/lib.rt:332:21
 number-requires : tie.Need-number-requires
 number-requires c κs = search needs
 
--- src/lib.rt:322:5
 returns : tie.Need-returns
 returns c = (c .before .before .query-admission .ensures, status-refused (c .before .before .before .args .self) (c .before .before .before .args .area) (refused-some _ _ (c .enum-told .given .1) _ (c .before .before .query-admission .ensures)))
 
--- src/lib.rt:322:5
 returns-2 : tie.Need-returns-2
 returns-2 c = (c .before .before .before .before .query-admission .ensures, c .number .ensures ∙ status-accepted (c .before .before .before .before .before .args .self) (c .before .before .before .before .before .args .area) (sym (c .before .before .before .before .query-admission .ensures) ∙ ap admissionNumber (c .before .before .enum-told2 .given .1)) _ (c .before .job-of .ensures))
 

@@ -12,38 +12,30 @@ use Rattle.machine.proofs.questions.job_admission.Reads as job-admission-reads
 use Rattle.manager.proofs.Manager.with_area.Reads as with-area-reads
 use Rattle.state.proofs.Area.fresh.Reads as fresh-reads
 
--- src/lib.rt:182:13
 job-admission-requires : tie.Need-job-admission-requires
 job-admission-requires c κs = search needs
 
--- src/lib.rt:184:38
 enum-told : tie.Need-enum-told
 enum-told c = search needs
 
--- src/lib.rt:189:21
 enum-told-2 : tie.Need-enum-told-2
 enum-told-2 c = search needs
 
--- src/lib.rt:189:21
 begun-job-requires : tie.Need-begun-job-requires
 unfolding jobNumberOf
 begun-job-requires c κs = job-few (c .before .before .before .before .before .before .args .self) (c .before .before .before .before .before .before .args .area) (c .before .before .before .before .before .before .args .task) (sym (c .before .before .job-admission .ensures) ∙ ap admissionNumber (c .enum-told2 .given .1))
 
--- src/lib.rt:190:21
 fresh-requires : tie.Need-fresh-requires
 fresh-requires c κs = search needs
 
--- src/lib.rt:192:21
 with-area-requires : tie.Need-with-area-requires
 unfolding jobNumberOf
 with-area-requires c κs = job-few (c .before .before .before .before .before .before .before .before .before .args .self) (c .before .before .before .before .before .before .before .before .before .args .area) (c .before .before .before .before .before .before .before .before .before .args .task) (sym (c .before .before .before .before .before .job-admission .ensures) ∙ ap admissionNumber (c .before .before .before .enum-told2 .given .1)) .1
 
--- src/lib.rt:175:5
 returns : tie.Need-returns
 unfolding jobNumberOf
 returns c = (c .before .before .job-admission .ensures, job-refused (c .before .before .before .before .before .before .args .self) (c .before .before .before .before .before .before .args .area) (c .before .before .before .before .before .before .args .task) (refused-some _ _ (c .enum-told .given .1) _ (c .before .before .job-admission .ensures)))
 
--- src/lib.rt:175:5
 returns-2 : tie.Need-returns-2
 unfolding jobNumberOf
 returns-2 c = (c .before .before .before .before .before .before .job-admission .ensures, c .with-area .ensures ∙ job-accepted (c .before .before .before .before .before .before .before .before .before .before .args .self) (c .before .before .before .before .before .before .before .before .before .before .args .area) (c .before .before .before .before .before .before .before .before .before .before .args .task) _ _ (c .before .before .before .begun-job .ensures) (ap (λ x. x .waits) (c .before .before .fresh .ensures)) (sym (c .before .before .before .before .before .before .job-admission .ensures) ∙ ap admissionNumber (c .before .before .before .before .enum-told2 .given .1)))

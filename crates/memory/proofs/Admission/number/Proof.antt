@@ -5,23 +5,18 @@ use Rattle.memory.proofs.Admission.number.Reads as reads
 use Rattle.memory.proofs.Admission.number.Lts as lts
 use Rattle.memory.proofs.Refusal.number.Reads as number-reads
 
--- src/lib.rt:150:36
 enum-told : tie.Need-enum-told
 enum-told c = search needs
 
--- src/lib.rt:151:32
 enum-known-self : tie.Need-enum-known-self
 enum-known-self c = search needs
 
--- src/lib.rt:151:44
 number-requires : tie.Need-number-requires
 number-requires c κs = search needs
 
--- src/lib.rt:146:5
 returns : tie.Need-returns
 returns c = search needs
 
--- src/lib.rt:146:5
 returns-2 : tie.Need-returns-2
 returns-2 c = rw (c .before .before .self .given .1) (c .number .ensures)
 

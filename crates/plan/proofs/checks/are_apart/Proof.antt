@@ -5,30 +5,24 @@ use Rattle.plan.proofs.checks.are_apart.Tie as tie
 use Rattle.plan.proofs.checks.are_apart.Reads as reads
 use Rattle.plan.proofs.checks.are_apart.Lts as lts
 
--- src/checks.rt:40:8
 add-if1 : tie.Need-add-if1
 add-if1 c = search needs
 
--- src/checks.rt:41:9
 returns : tie.Need-returns
 unfolding Rattle.plan.specs.Questions.apart
 returns c = simp (le-leb _ _ (c .if1 .taken))
 
--- src/checks.rt:43:8
 add-if2 : tie.Need-add-if2
 add-if2 c = search needs
 
--- src/checks.rt:44:9
 returns-2 : tie.Need-returns-2
 unfolding Rattle.plan.specs.Questions.apart
 returns-2 c = simp (le-leb _ _ (c .if2 .taken), lt-leb _ _ (c .before .if1 .left))
 
--- src/checks.rt:47:9
 returns-3 : tie.Need-returns-3
 unfolding Rattle.plan.specs.Questions.apart
 returns-3 c = simp (eq-eqb _ _ (c .if3 .taken), lt-leb _ _ (c .before .if2 .left), lt-leb _ _ (c .before .before .if1 .left))
 
--- src/checks.rt:36:1
 returns-4 : tie.Need-returns-4
 unfolding Rattle.plan.specs.Questions.apart
 returns-4 c = simp (ne-eqb _ _ (c .if3 .left), lt-leb _ _ (c .before .if2 .left), lt-leb _ _ (c .before .before .if1 .left))

@@ -1,14 +1,12 @@
-use borrow.Author.Tests.{eq-eqb, le-leb, lt-leb, ne-eqb}
+use borrow.Author.Tests.{le-leb, lt-leb}
 use Rattle.plan.proofs.checks.is_within.Statement.{statement}
 use Rattle.plan.proofs.checks.is_within.Tie as tie
 use Rattle.plan.proofs.checks.is_within.Reads as reads
 use Rattle.plan.proofs.checks.is_within.Lts as lts
 
--- src/checks.rt:17:9
 returns : tie.Need-returns
 returns c = simp (lt-leb _ _ (c .if1 .taken))
 
--- src/checks.rt:13:1
 returns-2 : tie.Need-returns-2
 returns-2 c = simp (le-leb _ _ (c .if1 .left))
 

@@ -15,60 +15,48 @@ use Rattle.plan.proofs.records.Plan.admission.Reads as admission-reads
 use Rattle.plan.proofs.records.Plan.read.Reads as read-reads
 use Rattle.plan.proofs.scan.record_layout.Reads as record-layout-reads
 
--- src/load.rt:32:9
 record-layout-requires : tie.Need-record-layout-requires
 record-layout-requires c κs = search needs
 
--- src/load.rt:34:9
 refused-requires : tie.Need-refused-requires
 refused-requires c κs = search needs
 
--- src/load.rt:34:9
 returns : tie.Need-returns
 returns c =
     let e = not-whole _ _ (c .before .before .before .record-layout .ensures .0) (c .before .if1 .taken) in
     (c .refused .ensures .0 ∙ sym e, c .refused .ensures .1 ∙ not-kept _ 1 e (omega arith))
 
--- src/load.rt:36:9
 counts-fit-requires : tie.Need-counts-fit-requires
 counts-fit-requires c κs = search needs
 
--- src/load.rt:41:9
 refused-requires-2 : tie.Need-refused-requires-2
 refused-requires-2 c κs = search needs
 
--- src/load.rt:41:9
 returns-2 : tie.Need-returns-2
 returns-2 c =
     let e = too-many _ _ (c .before .before .before .before .before .record-layout .ensures .0) (c .before .before .before .if1 .left)
     (sym (c .before .before .counts-fit .ensures) ∙ not-true (c .before .before .counts-fit .result) (c .before .if2 .taken)) in
     (c .refused2 .ensures .0 ∙ sym e, c .refused2 .ensures .1 ∙ not-kept _ 2 e (omega arith))
 
--- src/load.rt:43:9
 read-requires : tie.Need-read-requires
 read-requires c κs =
     let few = counts _ _ _ (sym (c .before .counts-fit .ensures) ∙ not-false (c .before .counts-fit .result) (c .if2 .left)) in
     ((c .before .before .before .before .record-layout .ensures .0, c .before .before .before .before .record-layout .ensures .1), (omega arith, omega arith, omega arith))
 
--- src/load.rt:44:9
 admission-requires : tie.Need-admission-requires
 admission-requires c κs =
     read-counts _ _ (c .before .before .before .before .before .record-layout .ensures .0) _ (c .read .ensures)
     (sym (c .before .before .counts-fit .ensures) ∙ not-false (c .before .before .counts-fit .result) (c .before .if2 .left))
 
--- src/load.rt:46:32
 enum-told : tie.Need-enum-told
 enum-told c = search needs
 
--- src/load.rt:47:28
 enum-known-answer : tie.Need-enum-known-answer
 enum-known-answer c = search needs
 
--- src/load.rt:47:40
 refused-requires-3 : tie.Need-refused-requires-3
 refused-requires-3 c κs = search needs
 
--- src/load.rt:28:1
 returns-3 : tie.Need-returns-3
 returns-3 c =
     let e = few-enough _ _ (c .before .before .before .before .before .before .before .before .record-layout .ensures .0) (c .before .before .before .before .before .before .if1 .left)
@@ -76,7 +64,6 @@ returns-3 c =
     let n = c .before .before .admission .ensures ∙ e in
     (n, c .before .before .before .read .ensures ∙ kept _ (sym n ∙ ap admissionNumber (c .enum-told .given .1)))
 
--- src/load.rt:28:1
 returns-4 : tie.Need-returns-4
 returns-4 c =
     let e = few-enough _ _ (c .before .before .before .before .before .before .before .before .before .before .record-layout .ensures .0) (c .before .before .before .before .before .before .before .before .if1 .left)

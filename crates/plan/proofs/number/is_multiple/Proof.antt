@@ -6,15 +6,12 @@ use Rattle.plan.proofs.number.is_multiple.Tie as tie
 use Rattle.plan.proofs.number.is_multiple.Reads as reads
 use Rattle.plan.proofs.number.is_multiple.Lts as lts
 
--- src/number.rt:54:9
 returns : tie.Need-returns
 returns c = sym (multiple-zero _ _ (c .if1 .taken))
 
--- src/number.rt:56:5
 rem-result : tie.Need-rem-result
 rem-result c = search needs
 
--- src/number.rt:50:1
 returns-2 : tie.Need-returns-2
 returns-2 c = sym (multiple-is _ _)
 

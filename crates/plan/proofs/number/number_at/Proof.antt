@@ -16,39 +16,30 @@ Inv-loop bytes at width value₀ i₀ value i = (i ≤ width) × (value ≡ numb
 abbrev μ-loop : tie.MeasureT-loop
 μ-loop bytes at width value₀ i₀ value i = i
 
--- src/number.rt:20:5
 loop-holds : tie.Need-loop-holds Inv-loop μ-loop
 loop-holds c = (omega arith, number-none _ _ _, power-none (c .before .args .width))
 
--- src/number.rt:21:9
 sub-i : tie.Need-sub-i Inv-loop μ-loop
 sub-i c = search needs
 
--- src/number.rt:22:17
 mul-value : tie.Need-mul-value Inv-loop μ-loop
 mul-value c = omega (arith, power-seven (c .before .before .before .args .width - c .before .loop .i) (omega arith))
 
--- src/number.rt:22:42
 add-wide : tie.Need-add-wide Inv-loop μ-loop
 add-wide c = search needs
 
--- src/number.rt:22:36
 shared-slice-read-wide : tie.Need-shared-slice-read-wide Inv-loop μ-loop
 shared-slice-read-wide c = search needs
 
--- src/number.rt:22:31
 wide-requires : tie.Need-wide-requires Inv-loop μ-loop
 wide-requires c κs = search needs
 
--- src/number.rt:22:17
 add-value : tie.Need-add-value Inv-loop μ-loop
 add-value c = omega (arith, power-seven (c .before .before .before .before .before .args .width - c .before .before .before .loop .i) (omega arith))
 
--- src/number.rt:20:5
 loop-less : tie.Need-loop-less Inv-loop μ-loop
 loop-less c = search needs
 
--- src/number.rt:20:5
 loop-again : tie.Need-loop-again Inv-loop μ-loop
 loop-again c =
     let a = c .before .before .before .before .before .args in
@@ -59,7 +50,6 @@ loop-again c =
     let wider = power-more (a .width) i some few in
     (omega arith, omega arith, omega arith)
 
--- src/number.rt:14:1
 returns : tie.Need-returns Inv-loop μ-loop
 returns c =
     let none : c .before .loop .i ≡ 0 = omega arith in

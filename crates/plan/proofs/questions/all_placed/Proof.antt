@@ -1,4 +1,4 @@
-use Prim.Native.Nat.{_+_, _-_, _≤_}
+use Prim.Native.Nat.{_-_, _≤_}
 use mathlib.Core.Bool.{true}
 use mathlib.Core.Path.{_≡_, refl, sym, ap, _∙_}
 use native.Mathlib.Omega.{arith}
@@ -18,40 +18,31 @@ Inv-loop count devices device-count area-count sub-areas i₀ i = (i ≤ count) 
 abbrev μ-loop : tie.MeasureT-loop
 μ-loop count devices device-count area-count sub-areas i₀ i = count - i
 
--- src/questions.rt:122:5
 loop-holds : tie.Need-loop-holds Inv-loop μ-loop
 unfolding every
 loop-holds c = (omega arith, refl)
 
--- src/questions.rt:123:24
 mul-sub-area : tie.Need-mul-sub-area Inv-loop μ-loop
 mul-sub-area c = search needs
 
--- src/questions.rt:123:24
 array-copy-out-sub-area : tie.Need-array-copy-out-sub-area Inv-loop μ-loop
 array-copy-out-sub-area c = search needs
 
--- src/questions.rt:124:13
 is-placed-requires : tie.Need-is-placed-requires Inv-loop μ-loop
 is-placed-requires c κs = search needs
 
--- src/questions.rt:125:13
 returns : tie.Need-returns Inv-loop μ-loop
 returns c = sym (every-fails _ _ _ (omega arith) (sym (c .before .is-placed .ensures) ∙ not-true (c .before .is-placed .result) (c .if1 .taken)))
 
--- src/questions.rt:127:9
 add-i : tie.Need-add-i Inv-loop μ-loop
 add-i c = search needs
 
--- src/questions.rt:122:5
 loop-less : tie.Need-loop-less Inv-loop μ-loop
 loop-less c = search needs
 
--- src/questions.rt:122:5
 loop-again : tie.Need-loop-again Inv-loop μ-loop
 loop-again c = (omega arith, every-more _ _ (c .before .before .before .before .loop .inv .1) (sym (c .before .is-placed .ensures) ∙ not-false (c .before .is-placed .result) (c .if1 .left)))
 
--- src/questions.rt:111:1
 returns-2 : tie.Need-returns-2 Inv-loop μ-loop
 returns-2 c = sym (ap (every _) (omega arith) ∙ c .before .loop .inv .1)
 

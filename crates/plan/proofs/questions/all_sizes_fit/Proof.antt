@@ -1,11 +1,11 @@
-use Prim.Native.Nat.{_+_, _-_, _≤_}
+use Prim.Native.Nat.{_-_, _≤_}
 use mathlib.Core.Bool.{true}
 use mathlib.Core.Path.{_≡_, refl, sym, ap, _∙_}
 use native.Mathlib.Omega.{arith}
 use borrow.Author.Needs.{needs}
 use borrow.Author.Tests.{not-true, not-false}
 use Rattle.arith.specs.Bounded.{every, every-fails, every-more}
-use Rattle.plan.specs.Questions.{subAreaOf, sizesFit, allSizesFit}
+use Rattle.plan.specs.Questions.{subAreaOf, sizesFit}
 use Rattle.plan.proofs.questions.all_sizes_fit.Statement.{statement}
 use Rattle.plan.proofs.questions.all_sizes_fit.Tie as tie
 use Rattle.plan.proofs.questions.all_sizes_fit.Reads as reads
@@ -18,40 +18,31 @@ Inv-loop count sub-areas i₀ i = (i ≤ count) × (every (λ k. sizesFit (subAr
 abbrev μ-loop : tie.MeasureT-loop
 μ-loop count sub-areas i₀ i = count - i
 
--- src/questions.rt:95:5
 loop-holds : tie.Need-loop-holds Inv-loop μ-loop
 unfolding every
 loop-holds c = (omega arith, refl)
 
--- src/questions.rt:96:24
 mul-sub-area : tie.Need-mul-sub-area Inv-loop μ-loop
 mul-sub-area c = search needs
 
--- src/questions.rt:96:24
 array-copy-out-sub-area : tie.Need-array-copy-out-sub-area Inv-loop μ-loop
 array-copy-out-sub-area c = search needs
 
--- src/questions.rt:97:13
 sizes-fit-requires : tie.Need-sizes-fit-requires Inv-loop μ-loop
 sizes-fit-requires c κs = search needs
 
--- src/questions.rt:98:13
 returns : tie.Need-returns Inv-loop μ-loop
 returns c = sym (every-fails _ _ _ (omega arith) (sym (c .before .sizes-fit .ensures) ∙ not-true (c .before .sizes-fit .result) (c .if1 .taken)))
 
--- src/questions.rt:100:9
 add-i : tie.Need-add-i Inv-loop μ-loop
 add-i c = search needs
 
--- src/questions.rt:95:5
 loop-less : tie.Need-loop-less Inv-loop μ-loop
 loop-less c = search needs
 
--- src/questions.rt:95:5
 loop-again : tie.Need-loop-again Inv-loop μ-loop
 loop-again c = (omega arith, every-more _ _ (c .before .before .before .before .loop .inv .1) (sym (c .before .sizes-fit .ensures) ∙ not-false (c .before .sizes-fit .result) (c .if1 .left)))
 
--- src/questions.rt:90:1
 returns-2 : tie.Need-returns-2 Inv-loop μ-loop
 returns-2 c = sym (ap (every _) (omega arith) ∙ c .before .loop .inv .1)
 

@@ -1,4 +1,4 @@
-use Prim.Native.Nat.{_+_, _-_, _≤_}
+use Prim.Native.Nat.{_-_, _≤_}
 use mathlib.Core.Bool.{true}
 use mathlib.Core.Path.{_≡_, refl, sym, ap, _∙_}
 use native.Mathlib.Omega.{arith}
@@ -18,40 +18,31 @@ Inv-loop area-count sub-areas count areas a₀ a = (a ≤ area-count) × (every 
 abbrev μ-loop : tie.MeasureT-loop
 μ-loop area-count sub-areas count areas a₀ a = area-count - a
 
--- src/questions.rt:215:5
 loop-holds : tie.Need-loop-holds Inv-loop μ-loop
 unfolding every
 loop-holds c = (omega arith, refl)
 
--- src/questions.rt:216:20
 mul-area : tie.Need-mul-area Inv-loop μ-loop
 mul-area c = search needs
 
--- src/questions.rt:216:20
 array-copy-out-area : tie.Need-array-copy-out-area Inv-loop μ-loop
 array-copy-out-area c = search needs
 
--- src/questions.rt:217:13
 space-fits-requires : tie.Need-space-fits-requires Inv-loop μ-loop
 space-fits-requires c κs = search needs
 
--- src/questions.rt:218:13
 returns : tie.Need-returns Inv-loop μ-loop
 returns c = sym (every-fails _ _ _ (omega arith) (sym (c .before .space-fits .ensures) ∙ not-true (c .before .space-fits .result) (c .if1 .taken)))
 
--- src/questions.rt:220:9
 add-a : tie.Need-add-a Inv-loop μ-loop
 add-a c = search needs
 
--- src/questions.rt:215:5
 loop-less : tie.Need-loop-less Inv-loop μ-loop
 loop-less c = search needs
 
--- src/questions.rt:215:5
 loop-again : tie.Need-loop-again Inv-loop μ-loop
 loop-again c = (omega arith, every-more _ _ (c .before .before .before .before .loop .inv .1) (sym (c .before .space-fits .ensures) ∙ not-false (c .before .space-fits .result) (c .if1 .left)))
 
--- src/questions.rt:204:1
 returns-2 : tie.Need-returns-2 Inv-loop μ-loop
 returns-2 c = sym (ap (every _) (omega arith) ∙ c .before .loop .inv .1)
 

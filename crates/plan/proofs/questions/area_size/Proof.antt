@@ -1,5 +1,5 @@
-use Prim.Native.Nat.{ℕ, _+_, _-_, _*_, _≤_}
-use mathlib.Core.Path.{_≡_, refl, sym, ap, _∙_}
+use Prim.Native.Nat.{ℕ, _-_, _*_, _≤_}
+use mathlib.Core.Path.{_≡_, refl, ap, _∙_}
 use native.Mathlib.Omega.{arith}
 use borrow.Author.Needs.{needs}
 use Rattle.arith.specs.Bounded.{sum}
@@ -17,24 +17,19 @@ Inv-loop count area sub-areas size₀ i₀ size i = (i ≤ count) × (size ≡ a
 abbrev μ-loop : tie.MeasureT-loop
 μ-loop count area sub-areas size₀ i₀ size i = count - i
 
--- src/questions.rt:176:5
 loop-holds : tie.Need-loop-holds Inv-loop μ-loop
 unfolding sum
 loop-holds c = (omega arith, refl, omega arith)
 
--- src/questions.rt:177:25
 mul-size-in : tie.Need-mul-size-in Inv-loop μ-loop
 mul-size-in c = search needs
 
--- src/questions.rt:177:25
 array-copy-out-size-in : tie.Need-array-copy-out-size-in Inv-loop μ-loop
 array-copy-out-size-in c = search needs
 
--- src/questions.rt:177:17
 size-in-requires : tie.Need-size-in-requires Inv-loop μ-loop
 size-in-requires c κs = search needs
 
--- src/questions.rt:177:9
 add-size : tie.Need-add-size Inv-loop μ-loop
 add-size c =
     let l = c .before .before .before .loop in
@@ -42,15 +37,12 @@ add-size c =
     let few = size-in-few (a .area) (subAreaOf (a .t1) (l .i)) (c .before .before .before .before .pre .1 (l .i) (omega arith)) in
     omega (arith, c .size-in .ensures)
 
--- src/questions.rt:178:9
 add-i : tie.Need-add-i Inv-loop μ-loop
 add-i c = search needs
 
--- src/questions.rt:176:5
 loop-less : tie.Need-loop-less Inv-loop μ-loop
 loop-less c = search needs
 
--- src/questions.rt:176:5
 loop-again : tie.Need-loop-again Inv-loop μ-loop
 loop-again c =
     let l = c .before .before .before .loop in
@@ -59,7 +51,6 @@ loop-again c =
     let more = size-more (a .t1) (a .area) (l .i) in
     (omega arith, omega (arith, c .size-in .ensures), omega (arith, c .size-in .ensures))
 
--- src/questions.rt:169:1
 returns : tie.Need-returns Inv-loop μ-loop
 returns c =
     let l = c .before .loop in

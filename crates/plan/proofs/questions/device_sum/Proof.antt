@@ -15,43 +15,34 @@ Inv-loop count devices sum₀ i₀ sum i = (i ≤ count) × (sum ≡ lengthSum d
 abbrev μ-loop : tie.MeasureT-loop
 μ-loop count devices sum₀ i₀ sum i = count - i
 
--- src/questions.rt:22:5
 loop-holds : tie.Need-loop-holds Inv-loop μ-loop
 unfolding Rattle.arith.specs.Bounded.sum
 loop-holds c = (omega arith, refl, omega arith)
 
--- src/questions.rt:23:22
 mul-device : tie.Need-mul-device Inv-loop μ-loop
 mul-device c = search needs
 
--- src/questions.rt:23:22
 array-copy-out-device : tie.Need-array-copy-out-device Inv-loop μ-loop
 array-copy-out-device c = search needs
 
--- src/questions.rt:24:16
 cast-sum : tie.Need-cast-sum Inv-loop μ-loop
 cast-sum c = search needs
 
--- src/questions.rt:24:9
 add-sum : tie.Need-add-sum Inv-loop μ-loop
 add-sum c = search needs
 
--- src/questions.rt:25:9
 add-i : tie.Need-add-i Inv-loop μ-loop
 add-i c = search needs
 
--- src/questions.rt:22:5
 loop-less : tie.Need-loop-less Inv-loop μ-loop
 loop-less c = search needs
 
--- src/questions.rt:22:5
 loop-again : tie.Need-loop-again Inv-loop μ-loop
 loop-again c =
     let l = c .before .before .before .loop in
     let longer = length-more (c .before .before .before .before .args .t1) (l .i) in
     (omega arith, omega arith, omega arith)
 
--- src/questions.rt:16:1
 returns : tie.Need-returns Inv-loop μ-loop
 returns c = (c .before .loop .inv .1 ∙ ap (λ (n : ℕ). lengthSum (c .before .before .args .t1) n) (omega arith), omega arith)
 

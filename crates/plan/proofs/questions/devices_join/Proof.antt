@@ -1,4 +1,4 @@
-use Prim.Native.Nat.{ℕ, _+_, _-_, _*_, _≤_}
+use Prim.Native.Nat.{ℕ, _-_, _*_, _≤_}
 use mathlib.Core.Bool.{true, false}
 use mathlib.Core.Path.{_≡_, refl, sym, ap, _∙_}
 use native.Mathlib.Omega.{arith}
@@ -25,24 +25,19 @@ Inv-loop count devices due₀ sum₀ i₀ due sum i =
 abbrev μ-loop : tie.MeasureT-loop
 μ-loop count devices due₀ sum₀ i₀ due sum i = count - i
 
--- src/questions.rt:20:5
 loop-holds : tie.Need-loop-holds Inv-loop μ-loop
 unfolding every deviceDue Rattle.arith.specs.Bounded.sum
 loop-holds c = (omega arith, refl, refl, refl, omega arith)
 
--- src/questions.rt:21:22
 mul-device : tie.Need-mul-device Inv-loop μ-loop
 mul-device c = search needs
 
--- src/questions.rt:21:22
 array-copy-out-device : tie.Need-array-copy-out-device Inv-loop μ-loop
 array-copy-out-device c = search needs
 
--- src/questions.rt:22:13
 joins-requires : tie.Need-joins-requires Inv-loop μ-loop
 joins-requires c κs = search needs
 
--- src/questions.rt:23:13
 returns : tie.Need-returns Inv-loop μ-loop
 unfolding devicesJoin
 returns c =
@@ -52,27 +47,21 @@ returns c =
     ap (λ (due : ℕ). deviceJoins due (deviceOf d (l .i))) (sym (l .inv .2)) ∙ sym (c .before .joins .ensures) ∙ not-true (c .before .joins .result) (c .if1 .taken) in
     rw (every-fails (λ k. deviceJoins (deviceDue d k) (deviceOf d k)) (c .before .before .before .before .before .args .count) (l .i) (omega arith) e)
 
--- src/questions.rt:25:9
 end-requires : tie.Need-end-requires Inv-loop μ-loop
 end-requires c κs = search needs
 
--- src/questions.rt:26:16
 cast-sum : tie.Need-cast-sum Inv-loop μ-loop
 cast-sum c = search needs
 
--- src/questions.rt:26:9
 add-sum : tie.Need-add-sum Inv-loop μ-loop
 add-sum c = search needs
 
--- src/questions.rt:27:9
 add-i : tie.Need-add-i Inv-loop μ-loop
 add-i c = search needs
 
--- src/questions.rt:20:5
 loop-less : tie.Need-loop-less Inv-loop μ-loop
 loop-less c = search needs
 
--- src/questions.rt:20:5
 loop-again : tie.Need-loop-again Inv-loop μ-loop
 loop-again c =
     let l = c .before .before .before .before .before .before .loop in
@@ -89,7 +78,6 @@ loop-again c =
       omega arith,
     )
 
--- src/questions.rt:13:1
 returns-2 : tie.Need-returns-2 Inv-loop μ-loop
 unfolding devicesJoin
 returns-2 c =

@@ -1,4 +1,4 @@
-use Prim.Native.Nat.{_+_, _-_, _*_, _≤_}
+use Prim.Native.Nat.{_-_, _≤_}
 use mathlib.Core.Path.{_≡_, refl, sym, ap, _∙_}
 use native.Mathlib.Omega.{arith}
 use borrow.Author.Needs.{needs}
@@ -17,40 +17,31 @@ Inv-loop count area sub-areas i₀ i = (i ≤ count) × (some (λ k. isOf area (
 abbrev μ-loop : tie.MeasureT-loop
 μ-loop count area sub-areas i₀ i = count - i
 
--- src/questions.rt:149:5
 loop-holds : tie.Need-loop-holds Inv-loop μ-loop
 unfolding some
 loop-holds c = (omega arith, refl)
 
--- src/questions.rt:150:24
 mul-sub-area : tie.Need-mul-sub-area Inv-loop μ-loop
 mul-sub-area c = search needs
 
--- src/questions.rt:150:24
 array-copy-out-sub-area : tie.Need-array-copy-out-sub-area Inv-loop μ-loop
 array-copy-out-sub-area c = search needs
 
--- src/questions.rt:151:12
 cast-if1 : tie.Need-cast-if1 Inv-loop μ-loop
 cast-if1 c = search needs
 
--- src/questions.rt:152:13
 returns : tie.Need-returns Inv-loop μ-loop
 returns c = sym (some-intro _ _ _ (omega arith) (eq-eqb _ _ (c .if1 .taken)))
 
--- src/questions.rt:154:9
 add-i : tie.Need-add-i Inv-loop μ-loop
 add-i c = search needs
 
--- src/questions.rt:149:5
 loop-less : tie.Need-loop-less Inv-loop μ-loop
 loop-less c = search needs
 
--- src/questions.rt:149:5
 loop-again : tie.Need-loop-again Inv-loop μ-loop
 loop-again c = (omega arith, some-none _ _ (c .before .before .before .before .loop .inv .1) (ne-eqb _ _ (c .if1 .left)))
 
--- src/questions.rt:144:1
 returns-2 : tie.Need-returns-2 Inv-loop μ-loop
 returns-2 c = sym (ap (some _) (omega arith) ∙ c .before .loop .inv .1)
 

@@ -6,20 +6,16 @@ use Rattle.plan.proofs.questions.size_in.Reads as reads
 use Rattle.plan.proofs.questions.size_in.Lts as lts
 use Rattle.plan.proofs.records.SubAreaRecord.size.Reads as size-reads
 
--- src/questions.rt:163:8
 cast-if1 : tie.Need-cast-if1
 cast-if1 c = search needs
 
--- src/questions.rt:164:9
 size-requires : tie.Need-size-requires
 size-requires c κs = search needs
 
--- src/questions.rt:164:9
 returns : tie.Need-returns
 unfolding Rattle.plan.specs.Questions.sizeIn
 returns c = simp (← (c .size .ensures .0), eq-eqb _ _ (c .before .if1 .taken))
 
--- src/questions.rt:160:1
 returns-2 : tie.Need-returns-2
 unfolding Rattle.plan.specs.Questions.sizeIn
 returns-2 c = simp (ne-eqb _ _ (c .if1 .left))

@@ -8,28 +8,22 @@ use Rattle.plan.proofs.questions.space_fits.Lts as lts
 use Rattle.plan.proofs.questions.area_size.Reads as area-size-reads
 use Rattle.plan.proofs.questions.has_sub_area.Reads as has-sub-area-reads
 
--- src/questions.rt:193:9
 has-sub-area-requires : tie.Need-has-sub-area-requires
 has-sub-area-requires c κs = search needs
 
--- src/questions.rt:194:9
 returns : tie.Need-returns
 unfolding spaceFits
 returns c = simp (not-true (c .before .has-sub-area .result) (c .if1 .taken), ← (c .before .has-sub-area .ensures))
 
--- src/questions.rt:196:6
 cast-result : tie.Need-cast-result
 cast-result c = search needs
 
--- src/questions.rt:196:24
 area-size-requires : tie.Need-area-size-requires
 area-size-requires c κs = search needs
 
--- src/questions.rt:196:5
 add-result : tie.Need-add-result
 add-result c = search needs
 
--- src/questions.rt:183:1
 returns-2 : tie.Need-returns-2
 unfolding spaceFits
 returns-2 c = simp (← (c .area-size .ensures .0), not-false (c .before .before .before .has-sub-area .result) (c .before .before .if1 .left), ← (c .before .before .before .has-sub-area .ensures))

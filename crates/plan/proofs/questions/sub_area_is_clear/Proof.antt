@@ -1,4 +1,4 @@
-use Prim.Native.Nat.{_+_, _-_, _≤_}
+use Prim.Native.Nat.{_-_, _≤_}
 use mathlib.Core.Bool.{true}
 use mathlib.Core.Path.{_≡_, refl, sym, ap, _∙_}
 use native.Mathlib.Omega.{arith}
@@ -18,48 +18,37 @@ Inv-loop j sub-areas own i₀ i = (i ≤ j) × (every (λ k. subAreasApart (subA
 abbrev μ-loop : tie.MeasureT-loop
 μ-loop j sub-areas own i₀ i = j - i
 
--- src/questions.rt:204:15
 mul-own : tie.Need-mul-own Inv-loop μ-loop
 mul-own c = search needs
 
--- src/questions.rt:204:15
 array-copy-out-own : tie.Need-array-copy-out-own Inv-loop μ-loop
 array-copy-out-own c = search needs
 
--- src/questions.rt:206:5
 loop-holds : tie.Need-loop-holds Inv-loop μ-loop
 unfolding every
 loop-holds c = (omega arith, refl)
 
--- src/questions.rt:207:24
 mul-sub-area : tie.Need-mul-sub-area Inv-loop μ-loop
 mul-sub-area c = search needs
 
--- src/questions.rt:207:24
 array-copy-out-sub-area : tie.Need-array-copy-out-sub-area Inv-loop μ-loop
 array-copy-out-sub-area c = search needs
 
--- src/questions.rt:208:13
 is-apart-requires : tie.Need-is-apart-requires Inv-loop μ-loop
 is-apart-requires c κs = search needs
 
--- src/questions.rt:209:13
 returns : tie.Need-returns Inv-loop μ-loop
 returns c = sym (every-fails _ _ _ (omega arith) (sym (c .before .is-apart .ensures) ∙ not-true (c .before .is-apart .result) (c .if1 .taken)))
 
--- src/questions.rt:211:9
 add-i : tie.Need-add-i Inv-loop μ-loop
 add-i c = search needs
 
--- src/questions.rt:206:5
 loop-less : tie.Need-loop-less Inv-loop μ-loop
 loop-less c = search needs
 
--- src/questions.rt:206:5
 loop-again : tie.Need-loop-again Inv-loop μ-loop
 loop-again c = (omega arith, every-more _ _ (c .before .before .before .before .loop .inv .1) (sym (c .before .is-apart .ensures) ∙ not-false (c .before .is-apart .result) (c .if1 .left)))
 
--- src/questions.rt:200:1
 returns-2 : tie.Need-returns-2 Inv-loop μ-loop
 returns-2 c = sym (ap (every _) (omega arith) ∙ c .before .loop .inv .1)
 

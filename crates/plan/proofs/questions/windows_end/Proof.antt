@@ -1,4 +1,4 @@
-use Prim.Native.Nat.{_+_, _-_, _≤_}
+use Prim.Native.Nat.{_-_, _≤_}
 use mathlib.Core.Bool.{true}
 use mathlib.Core.Path.{_≡_, refl, sym, ap, _∙_}
 use native.Mathlib.Omega.{arith}
@@ -19,40 +19,31 @@ Inv-loop count areas i₀ i = (i ≤ count) × (every (λ k. leb (windowEnd (are
 abbrev μ-loop : tie.MeasureT-loop
 μ-loop count areas i₀ i = count - i
 
--- src/questions.rt:37:5
 loop-holds : tie.Need-loop-holds Inv-loop μ-loop
 unfolding every
 loop-holds c = (omega arith, refl)
 
--- src/questions.rt:38:20
 mul-area : tie.Need-mul-area Inv-loop μ-loop
 mul-area c = search needs
 
--- src/questions.rt:38:20
 array-copy-out-area : tie.Need-array-copy-out-area Inv-loop μ-loop
 array-copy-out-area c = search needs
 
--- src/questions.rt:39:13
 window-fits-requires : tie.Need-window-fits-requires Inv-loop μ-loop
 window-fits-requires c κs = search needs
 
--- src/questions.rt:40:13
 returns : tie.Need-returns Inv-loop μ-loop
 returns c = sym (every-fails _ _ _ (omega arith) (sym (c .before .window-fits .ensures) ∙ not-true (c .before .window-fits .result) (c .if1 .taken)))
 
--- src/questions.rt:42:9
 add-i : tie.Need-add-i Inv-loop μ-loop
 add-i c = search needs
 
--- src/questions.rt:37:5
 loop-less : tie.Need-loop-less Inv-loop μ-loop
 loop-less c = search needs
 
--- src/questions.rt:37:5
 loop-again : tie.Need-loop-again Inv-loop μ-loop
 loop-again c = (omega arith, every-more _ _ (c .before .before .before .before .loop .inv .1) (sym (c .before .window-fits .ensures) ∙ not-false (c .before .window-fits .result) (c .if1 .left)))
 
--- src/questions.rt:32:1
 returns-2 : tie.Need-returns-2 Inv-loop μ-loop
 returns-2 c = sym (ap (every _) (omega arith) ∙ c .before .loop .inv .1)
 

@@ -7,20 +7,16 @@ use Rattle.plan.proofs.questions.windows_fit.Lts as lts
 use Rattle.plan.proofs.questions.windows_are_apart.Reads as windows-are-apart-reads
 use Rattle.plan.proofs.questions.windows_end.Reads as windows-end-reads
 
--- src/questions.rt:83:9
 windows-end-requires : tie.Need-windows-end-requires
 windows-end-requires c κs = search needs
 
--- src/questions.rt:84:9
 returns : tie.Need-returns
 unfolding Rattle.plan.specs.Questions.windowsFit
 returns c = simp (not-true (c .before .windows-end .result) (c .if1 .taken), ← (c .before .windows-end .ensures))
 
--- src/questions.rt:86:5
 windows-are-apart-requires : tie.Need-windows-are-apart-requires
 windows-are-apart-requires c κs = search needs
 
--- src/questions.rt:79:1
 returns-2 : tie.Need-returns-2
 unfolding Rattle.plan.specs.Questions.windowsFit
 returns-2 c = simp (← (c .windows-are-apart .ensures), not-false (c .before .before .windows-end .result) (c .before .if1 .left), ← (c .before .before .windows-end .ensures))

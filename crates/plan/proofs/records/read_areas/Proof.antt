@@ -17,48 +17,37 @@ Inv-loop bytes from count areas₀ i₀ areas i = (i ≤ count) × (areas ≡ ta
 abbrev μ-loop : tie.MeasureT-loop
 μ-loop bytes from count areas₀ i₀ areas i = count - i
 
--- src/records.rt:205:22
 blank-requires : tie.Need-blank-requires Inv-loop μ-loop
 blank-requires c κs = search needs
 
--- src/records.rt:207:5
 loop-holds : tie.Need-loop-holds Inv-loop μ-loop
 unfolding table
 loop-holds c = (omega arith, rw (c .blank .ensures))
 
--- src/records.rt:208:51
 mul-read : tie.Need-mul-read Inv-loop μ-loop
 mul-read c = search needs
 
--- src/records.rt:208:44
 add-read : tie.Need-add-read Inv-loop μ-loop
 add-read c = search needs
 
--- src/records.rt:208:20
 read-requires : tie.Need-read-requires Inv-loop μ-loop
 read-requires c κs = search needs
 
--- src/records.rt:208:9
 mul-areas : tie.Need-mul-areas Inv-loop μ-loop
 mul-areas c = search needs
 
--- src/records.rt:208:9
 array-set-from-areas : tie.Need-array-set-from-areas Inv-loop μ-loop
 array-set-from-areas c = search needs
 
--- src/records.rt:209:9
 add-i : tie.Need-add-i Inv-loop μ-loop
 add-i c = search needs
 
--- src/records.rt:207:5
 loop-less : tie.Need-loop-less Inv-loop μ-loop
 loop-less c = search needs
 
--- src/records.rt:207:5
 loop-again : tie.Need-loop-again Inv-loop μ-loop
 loop-again c = (omega arith, rw (table-more, c .read .ensures, c .before .before .loop .inv .1))
 
--- src/records.rt:201:1
 returns : tie.Need-returns Inv-loop μ-loop
 returns c = c .before .loop .inv .1 ∙ ap (table _ _ _) (omega arith)
 

@@ -1,4 +1,4 @@
-use Prim.Native.Nat.{_+_, _-_, _*_, _≤_}
+use Prim.Native.Nat.{_-_, _*_, _≤_}
 use mathlib.Core.Path.{_≡_, _∙_, ap}
 use native.Mathlib.Omega.{arith}
 use borrow.Author.Needs.{needs}
@@ -17,44 +17,34 @@ Inv-loop bytes count devices₀ i₀ devices i = (i ≤ count) × (devices ≡ t
 abbrev μ-loop : tie.MeasureT-loop
 μ-loop bytes count devices₀ i₀ devices i = count - i
 
--- src/records.rt:192:24
 blank-requires : tie.Need-blank-requires Inv-loop μ-loop
 blank-requires c κs = search needs
 
--- src/records.rt:194:5
 loop-holds : tie.Need-loop-holds Inv-loop μ-loop
 unfolding table
 loop-holds c = (omega arith, rw (c .blank .ensures))
 
--- src/records.rt:195:48
 mul-read : tie.Need-mul-read Inv-loop μ-loop
 mul-read c = search needs
 
--- src/records.rt:195:22
 read-requires : tie.Need-read-requires Inv-loop μ-loop
 read-requires c κs = search needs
 
--- src/records.rt:195:9
 mul-devices : tie.Need-mul-devices Inv-loop μ-loop
 mul-devices c = search needs
 
--- src/records.rt:195:9
 array-set-from-devices : tie.Need-array-set-from-devices Inv-loop μ-loop
 array-set-from-devices c = search needs
 
--- src/records.rt:196:9
 add-i : tie.Need-add-i Inv-loop μ-loop
 add-i c = search needs
 
--- src/records.rt:194:5
 loop-less : tie.Need-loop-less Inv-loop μ-loop
 loop-less c = search needs
 
--- src/records.rt:194:5
 loop-again : tie.Need-loop-again Inv-loop μ-loop
 loop-again c = (omega arith, rw (table-more, c .read .ensures, c .before .before .loop .inv .1))
 
--- src/records.rt:188:1
 returns : tie.Need-returns Inv-loop μ-loop
 returns c = c .before .loop .inv .1 ∙ ap (table _ _ _) (omega arith)
 

@@ -18,48 +18,37 @@ Inv-loop bytes from count sub-areas₀ i₀ sub-areas i = (i ≤ count) × (sub-
 abbrev μ-loop : tie.MeasureT-loop
 μ-loop bytes from count sub-areas₀ i₀ sub-areas i = count - i
 
--- src/records.rt:218:26
 blank-requires : tie.Need-blank-requires Inv-loop μ-loop
 blank-requires c κs = search needs
 
--- src/records.rt:220:5
 loop-holds : tie.Need-loop-holds Inv-loop μ-loop
 unfolding table
 loop-holds c = (omega arith, rw (c .blank .ensures))
 
--- src/records.rt:221:58
 mul-read : tie.Need-mul-read Inv-loop μ-loop
 mul-read c = search needs
 
--- src/records.rt:221:51
 add-read : tie.Need-add-read Inv-loop μ-loop
 add-read c = search needs
 
--- src/records.rt:221:24
 read-requires : tie.Need-read-requires Inv-loop μ-loop
 read-requires c κs = search needs
 
--- src/records.rt:221:9
 mul-sub-areas : tie.Need-mul-sub-areas Inv-loop μ-loop
 mul-sub-areas c = search needs
 
--- src/records.rt:221:9
 array-set-from-sub-areas : tie.Need-array-set-from-sub-areas Inv-loop μ-loop
 array-set-from-sub-areas c = search needs
 
--- src/records.rt:222:9
 add-i : tie.Need-add-i Inv-loop μ-loop
 add-i c = search needs
 
--- src/records.rt:220:5
 loop-less : tie.Need-loop-less Inv-loop μ-loop
 loop-less c = search needs
 
--- src/records.rt:220:5
 loop-again : tie.Need-loop-again Inv-loop μ-loop
 loop-again c = (omega arith, rw (table-more, c .read .ensures, c .before .before .loop .inv .1))
 
--- src/records.rt:214:1
 returns : tie.Need-returns Inv-loop μ-loop
 returns c = c .before .loop .inv .1 ∙ ap (table _ _ _) (omega arith)
 

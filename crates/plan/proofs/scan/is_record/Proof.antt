@@ -11,37 +11,30 @@ use Rattle.plan.proofs.scan.is_record.Tie as tie
 use Rattle.plan.proofs.scan.is_record.Reads as reads
 use Rattle.plan.proofs.scan.is_record.Lts as lts
 
--- src/scan.rt:19:8
 sub-if1 : tie.Need-sub-if1
 sub-if1 c = search needs
 
--- src/scan.rt:20:9
 returns : tie.Need-returns
 unfolding isRecord
 returns c =
     let a = c .before .before .args in
     simp (lt-leb (a .at + a .format .size) (length (a .bytes .now)) (omega arith))
 
--- src/scan.rt:22:8
 shared-slice-read-if2 : tie.Need-shared-slice-read-if2
 shared-slice-read-if2 c = search needs
 
--- src/scan.rt:23:9
 returns-2 : tie.Need-returns-2
 unfolding isRecord
 returns-2 c =
     let a = c .before .before .before .before .before .args in
     simp (ne-eqb _ _ (c .if2 .taken), le-leb (a .at + a .format .size) (length (a .bytes .now)) (omega arith))
 
--- src/scan.rt:25:11
 add-result : tie.Need-add-result
 add-result c = search needs
 
--- src/scan.rt:25:5
 shared-slice-read-result : tie.Need-shared-slice-read-result
 shared-slice-read-result c = search needs
 
--- src/scan.rt:15:1
 returns-3 : tie.Need-returns-3
 returns-3 c =
     let a = c .before .before .before .before .before .before .before .args in

@@ -6,19 +6,15 @@ use Rattle.plan.proofs.scan.record_layout.Reads as reads
 use Rattle.plan.proofs.scan.record_layout.Lts as lts
 use Rattle.plan.proofs.scan.run_from.Reads as run-from-reads
 
--- src/scan.rt:62:9
 run-from-requires : tie.Need-run-from-requires
 run-from-requires c κs = search needs
 
--- src/scan.rt:71:9
 run-from-requires-2 : tie.Need-run-from-requires-2
 run-from-requires-2 c κs = search needs
 
--- src/scan.rt:80:9
 run-from-requires-3 : tie.Need-run-from-requires-3
 run-from-requires-3 c κs = search needs
 
--- src/scan.rt:58:1
 returns : tie.Need-returns
 returns c =
     let d = c .before .before .run-from .ensures in

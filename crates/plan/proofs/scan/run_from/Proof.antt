@@ -23,16 +23,13 @@ Inv-loop bytes from format size count₀ end₀ count end =
 abbrev μ-loop : tie.MeasureT-loop
 μ-loop bytes from format size count₀ end₀ count end = length bytes - end
 
--- src/scan.rt:41:5
 loop-holds : tie.Need-loop-holds Inv-loop μ-loop
 unfolding recordsFrom
 loop-holds c = (omega arith, omega arith, omega (arith, zero-mul (c .before .args .format .size)), rw (sub-zero, zero-add))
 
--- src/scan.rt:41:11
 is-record-requires : tie.Need-is-record-requires Inv-loop μ-loop
 is-record-requires c κs = search needs
 
--- src/scan.rt:42:9
 add-count : tie.Need-add-count Inv-loop μ-loop
 add-count c =
     let a = c .before .before .before .before .args in
@@ -40,7 +37,6 @@ add-count c =
     let fits = record-fits (a .format) (a .bytes .now) (c .before .before .loop .end) here in
     omega arith
 
--- src/scan.rt:43:9
 add-end : tie.Need-add-end Inv-loop μ-loop
 add-end c =
     let a = c .before .before .before .before .args in
@@ -48,7 +44,6 @@ add-end c =
     let fits = record-fits (a .format) (a .bytes .now) (c .before .before .loop .end) here in
     omega arith
 
--- src/scan.rt:41:5
 loop-less : tie.Need-loop-less Inv-loop μ-loop
 loop-less c =
     let a = c .before .before .before .before .args in
@@ -56,7 +51,6 @@ loop-less c =
     let fits = record-fits (a .format) (a .bytes .now) (c .before .before .loop .end) here in
     omega arith
 
--- src/scan.rt:41:5
 loop-again : tie.Need-loop-again Inv-loop μ-loop
 loop-again c =
     let a = c .before .before .before .before .args in
@@ -66,7 +60,6 @@ loop-again c =
     let more = run-more (a .format) (a .bytes .now) n (c .before .before .loop .end) (omega arith) here in
     (omega arith, omega arith, omega (arith, add-one n, suc-mul n (a .format .size)), omega arith)
 
--- src/scan.rt:34:1
 returns : tie.Need-returns Inv-loop μ-loop
 returns c =
     let a = c .before .before .before .before .args in

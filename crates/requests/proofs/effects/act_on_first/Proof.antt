@@ -7,19 +7,15 @@ use Rattle.requests.proofs.effects.act_on_first.Lts as lts
 use Rattle.transfer.proofs.erase_part.Reads as erase-part-reads
 use Rattle.transfer.proofs.write_part.Reads as write-part-reads
 
--- src/effects.rt:70:38
 enum-told : tie.Need-enum-told
 enum-told c = search needs
 
--- src/effects.rt:70:27
 write-part-requires : tie.Need-write-part-requires
 write-part-requires c κs = let h = simp (c .before .enum-told .given .1) at (c .before .before .before .before .before .pre .1) in (omega arith, omega (arith, h))
 
--- src/effects.rt:71:38
 enum-told-2 : tie.Need-enum-told-2
 enum-told-2 c = search needs
 
--- src/effects.rt:71:27
 erase-part-requires : tie.Need-erase-part-requires
 erase-part-requires c κs = search needs
 
@@ -38,39 +34,30 @@ enum-told-6 c = search needs
 enum-told-7 : tie.Need-enum-told-7
 enum-told-7 c = search needs
 
--- src/effects.rt:58:1
 same-length : tie.Need-same-length
 same-length c = search needs
 
--- src/effects.rt:58:1
 returns : tie.Need-returns
 returns c = simp (← (c .before .before .write-part .ensures), c .before .before .before .before .enum-told .given .1)
 
--- src/effects.rt:58:1
 same-length-2 : tie.Need-same-length-2
 same-length-2 c = search needs
 
--- src/effects.rt:58:1
 returns-2 : tie.Need-returns-2
 returns-2 c = simp (← (c .before .before .erase-part .ensures), c .before .before .before .before .enum-told2 .given .1)
 
--- src/effects.rt:58:1
 returns-3 : tie.Need-returns-3
 returns-3 c = search needs
 
--- src/effects.rt:58:1
 returns-4 : tie.Need-returns-4
 returns-4 c = search needs
 
--- src/effects.rt:58:1
 returns-5 : tie.Need-returns-5
 returns-5 c = search needs
 
--- src/effects.rt:58:1
 returns-6 : tie.Need-returns-6
 returns-6 c = search needs
 
--- src/effects.rt:58:1
 returns-7 : tie.Need-returns-7
 returns-7 c = search needs
 

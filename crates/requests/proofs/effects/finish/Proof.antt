@@ -10,111 +10,84 @@ use Rattle.transfer.proofs.read_part.Reads as read-part-reads
 use Rattle.transfer.proofs.same_part.Reads as same-part-reads
 use Rattle.transfer.proofs.write_part.Reads as write-part-reads
 
--- src/effects.rt:39:24
 enum-told : tie.Need-enum-told
 enum-told c = search needs
 
--- src/effects.rt:39:13
 write-part-requires : tie.Need-write-part-requires
 write-part-requires c κs = let h = simp (c .before .before .enum-told .given .1) at (c .before .before .before .before .before .before .pre .1) in (omega arith, omega (arith, h))
 
--- src/effects.rt:43:23
 enum-told-2 : tie.Need-enum-told-2
 enum-told-2 c = search needs
 
--- src/effects.rt:43:13
 read-part-requires : tie.Need-read-part-requires
 read-part-requires c κs = let h = simp (c .before .before .enum-told2 .given .1) at (c .before .before .before .before .before .before .pre .1) in (omega (arith, h), omega arith)
 
--- src/effects.rt:47:24
 enum-told-3 : tie.Need-enum-told-3
 enum-told-3 c = search needs
 
--- src/effects.rt:47:13
 erase-part-requires : tie.Need-erase-part-requires
 erase-part-requires c κs = search needs
 
--- src/effects.rt:50:39
 enum-told-4 : tie.Need-enum-told-4
 enum-told-4 c = search needs
 
--- src/effects.rt:50:29
 same-part-requires : tie.Need-same-part-requires
 same-part-requires c κs = let h = simp (c .before .before .enum-told4 .given .1) at (c .before .before .before .before .before .before .pre .1) in (omega arith, omega (arith, h))
 
--- src/effects.rt:51:43
 enum-told-5 : tie.Need-enum-told-5
 enum-told-5 c = search needs
 
--- src/effects.rt:51:32
 blank-part-requires : tie.Need-blank-part-requires
 blank-part-requires c κs = search needs
 
--- src/effects.rt:52:26
 enum-told-6 : tie.Need-enum-told-6
 enum-told-6 c = search needs
 
--- src/effects.rt:53:27
 enum-told-7 : tie.Need-enum-told-7
 enum-told-7 c = search needs
 
--- src/effects.rt:24:1
 same-length : tie.Need-same-length
 same-length c = search needs
 
--- src/effects.rt:24:1
 same-length-2 : tie.Need-same-length-2
 same-length-2 c = search needs
 
--- src/effects.rt:24:1
 returns : tie.Need-returns
 returns c = (simp (← (c .before .before .write-part .ensures), c .before .before .before .before .before .enum-told .given .1), (simp (← (c .before .before .write-part .ensures), c .before .before .before .before .before .enum-told .given .1), simp (← (c .before .before .write-part .ensures), c .before .before .before .before .before .enum-told .given .1)))
 
--- src/effects.rt:24:1
 same-length-3 : tie.Need-same-length-3
 same-length-3 c = search needs
 
--- src/effects.rt:24:1
 same-length-4 : tie.Need-same-length-4
 same-length-4 c = search needs
 
--- src/effects.rt:24:1
 returns-2 : tie.Need-returns-2
 returns-2 c = (simp (← (c .before .before .read-part .ensures), c .before .before .before .before .before .enum-told2 .given .1), (simp (← (c .before .before .read-part .ensures), c .before .before .before .before .before .enum-told2 .given .1), simp (← (c .before .before .read-part .ensures), c .before .before .before .before .before .enum-told2 .given .1)))
 
--- src/effects.rt:24:1
 same-length-5 : tie.Need-same-length-5
 same-length-5 c = search needs
 
--- src/effects.rt:24:1
 returns-3 : tie.Need-returns-3
 returns-3 c = (simp (← (c .before .before .erase-part .ensures), c .before .before .before .before .enum-told3 .given .1), (simp (← (c .before .before .erase-part .ensures), c .before .before .before .before .enum-told3 .given .1), simp (← (c .before .before .erase-part .ensures), c .before .before .before .before .enum-told3 .given .1)))
 
--- src/effects.rt:24:1
 same-length-6 : tie.Need-same-length-6
 same-length-6 c = search needs
 
--- src/effects.rt:24:1
 same-length-7 : tie.Need-same-length-7
 same-length-7 c = search needs
 
--- src/effects.rt:24:1
 returns-4 : tie.Need-returns-4
 returns-4 c = (simp (← (c .same-part .ensures), c .before .before .before .enum-told4 .given .1), (simp (← (c .same-part .ensures), c .before .before .before .enum-told4 .given .1), simp (← (c .same-part .ensures), c .before .before .before .enum-told4 .given .1)))
 
--- src/effects.rt:24:1
 same-length-8 : tie.Need-same-length-8
 same-length-8 c = search needs
 
--- src/effects.rt:24:1
 returns-5 : tie.Need-returns-5
 returns-5 c = (simp (← (c .blank-part .ensures), c .before .before .enum-told5 .given .1), (simp (← (c .blank-part .ensures), c .before .before .enum-told5 .given .1), simp (← (c .blank-part .ensures), c .before .before .enum-told5 .given .1)))
 
--- src/effects.rt:24:1
 returns-6 : tie.Need-returns-6
 returns-6 c = (simp (c .enum-told6 .given .1), (simp (c .enum-told6 .given .1), simp (c .enum-told6 .given .1)))
 
--- src/effects.rt:24:1
 returns-7 : tie.Need-returns-7
 returns-7 c = (simp (c .enum-told7 .given .1), (simp (c .enum-told7 .given .1), simp (c .enum-told7 .given .1)))
 

@@ -11,70 +11,54 @@ use Rattle.requests.proofs.effects.act_on_first.Reads as act-on-first-r
 use Rattle.requests.proofs.effects.finish.Reads as finish-reads
 use Rattle.requests.proofs.effects.least.Reads as least-reads
 
--- src/effects.rt:105:34
 enum-told : tie.Need-enum-told
 enum-told c = search needs
 
--- src/effects.rt:107:44
 enum-told-2 : tie.Need-enum-told-2
 enum-told-2 c = search needs
 
--- src/effects.rt:107:16
 finish-requires : tie.Need-finish-requires
 finish-requires c κs = search needs
 
--- src/effects.rt:108:17
 same-length : tie.Need-same-length
 same-length c = search needs
 
--- src/effects.rt:108:17
 same-length-2 : tie.Need-same-length-2
 same-length-2 c = search needs
 
--- src/effects.rt:108:17
 returns : tie.Need-returns
 returns c = (simp (c .if1 .taken, ← (c .before .before .before .before .before .finish .ensures .0), ← (c .before .before .before .before .before .finish .ensures .1 .0), ← (c .before .before .before .before .before .finish .ensures .1 .1), c .before .before .before .before .before .before .before .before .enum-told2 .given .1), (simp (c .if1 .taken, ← (c .before .before .before .before .before .finish .ensures .0), ← (c .before .before .before .before .before .finish .ensures .1 .0), ← (c .before .before .before .before .before .finish .ensures .1 .1), c .before .before .before .before .before .before .before .before .enum-told2 .given .1), simp (c .if1 .taken, ← (c .before .before .before .before .before .finish .ensures .0), ← (c .before .before .before .before .before .finish .ensures .1 .0), ← (c .before .before .before .before .before .finish .ensures .1 .1), c .before .before .before .before .before .before .before .before .enum-told2 .given .1)))
 
--- src/effects.rt:112:30
 enum-known-answer : tie.Need-enum-known-answer
 enum-known-answer c = search needs
 
--- src/effects.rt:113:17
 least-requires : tie.Need-least-requires
 least-requires c κs = search needs
 
--- src/effects.rt:114:13
 act-on-first-requires : tie.Need-act-on-first-requires
 act-on-first-requires c κs =
     let e = c .before .before .least .ensures in
     let l : c .before .before .least .result ≤ c .before .before .before .before .before .before .before .before .args .n = omega (arith, e) in
     (omega (arith, c .before .before .before .before .before .before .before .before .pre .0, l), le-trans (lent-less (c .before .before .before .before .before .before .before .before .args .kind) (c .before .before .before .before .before .before .before .before .args .window) (c .before .before .least .result) (c .before .before .before .before .before .before .before .before .args .n) l) (c .before .before .before .before .before .before .before .before .pre .1))
 
--- src/effects.rt:90:1
 returns-2 : tie.Need-returns-2
 returns-2 c = (simp (c .enum-told .given .1), (simp (c .enum-told .given .1), simp (c .enum-told .given .1)))
 
--- src/effects.rt:90:1
 same-length-3 : tie.Need-same-length-3
 same-length-3 c = search needs
 
--- src/effects.rt:90:1
 same-length-4 : tie.Need-same-length-4
 same-length-4 c = search needs
 
--- src/effects.rt:90:1
 returns-3 : tie.Need-returns-3
 returns-3 c = (simp (c .if1 .left, ← (c .before .before .before .before .before .finish .ensures .0), ← (c .before .before .before .before .before .finish .ensures .1 .0), ← (c .before .before .before .before .before .finish .ensures .1 .1), c .before .before .before .before .before .before .before .before .enum-told2 .given .1), (simp (c .if1 .left, ← (c .before .before .before .before .before .finish .ensures .0), ← (c .before .before .before .before .before .finish .ensures .1 .0), ← (c .before .before .before .before .before .finish .ensures .1 .1), c .before .before .before .before .before .before .before .before .enum-told2 .given .1), simp (c .if1 .left, ← (c .before .before .before .before .before .finish .ensures .0), ← (c .before .before .before .before .before .finish .ensures .1 .0), ← (c .before .before .before .before .before .finish .ensures .1 .1), c .before .before .before .before .before .before .before .before .enum-told2 .given .1)))
 
--- src/effects.rt:90:1
 same-length-5 : tie.Need-same-length-5
 same-length-5 c = search needs
 
--- src/effects.rt:90:1
 same-length-6 : tie.Need-same-length-6
 same-length-6 c = search needs
 
--- src/effects.rt:90:1
 returns-4 : tie.Need-returns-4
 returns-4 c = (simp (← (c .before .before .act-on-first .ensures), ← (c .before .before .before .before .before .least .ensures), c .before .before .before .before .before .before .before .answer .given .1), (simp (← (c .before .before .act-on-first .ensures), ← (c .before .before .before .before .before .least .ensures), c .before .before .before .before .before .before .before .answer .given .1), simp (← (c .before .before .act-on-first .ensures), ← (c .before .before .before .before .before .least .ensures), c .before .before .before .before .before .before .before .answer .given .1)))
 

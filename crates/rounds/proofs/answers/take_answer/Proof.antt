@@ -1,6 +1,4 @@
-use mathlib.Core.Path.{_≡_, refl, sym, ap, _∙_}
-use native.Mathlib.Omega.{arith}
-use Rattle.rounds.specs.Turns.{Lent}
+use mathlib.Core.Path.{refl}
 use borrow.Author.Needs.{needs}
 use Rattle.rounds.proofs.answers.take_answer.Statement.{statement}
 use Rattle.rounds.proofs.answers.take_answer.Tie as tie
@@ -9,47 +7,36 @@ use Rattle.rounds.proofs.answers.take_answer.Lts as lts
 use Rattle.requests.proofs.next_segment.Reads as next-segment-reads
 use Rattle.requests.proofs.take_request.Reads as take-request-reads
 
--- src/answers.rt:69:21
 enum-told : tie.Need-enum-told
 enum-told c = search needs
 
--- src/answers.rt:74:21
 enum-told-2 : tie.Need-enum-told-2
 enum-told-2 c = search needs
 
--- src/answers.rt:76:29
 enum-known-state : tie.Need-enum-known-state
 enum-known-state c = search needs
 
--- src/answers.rt:80:70
 cast-next-segment : tie.Need-cast-next-segment
 cast-next-segment c = search needs
 
--- src/answers.rt:80:17
 next-segment-requires : tie.Need-next-segment-requires
 next-segment-requires c κs = let lent = rw (c .before .before .before .before .state .given .1) at (c .before .before .before .before .before .before .before .before .pre .1) in (c .before .before .before .before .before .before .before .before .pre .0, lent .2)
 
--- src/answers.rt:81:17
 take-request-requires : tie.Need-take-request-requires
 take-request-requires c κs = let lent = rw (c .before .before .before .before .before .before .before .state .given .1) at (c .before .before .before .before .before .before .before .before .before .before .before .pre .1) in lent
 
--- src/answers.rt:46:1
 returns : tie.Need-returns
 returns c = rw (c .enum-told .given .1) (refl, (refl, (refl, (refl, refl))))
 
--- src/answers.rt:46:1
 returns-2 : tie.Need-returns-2
 returns-2 c = rw (c .enum-told2 .given .1) (refl, (refl, (refl, (refl, refl))))
 
--- src/answers.rt:46:1
 same-length : tie.Need-same-length
 same-length c = search needs
 
--- src/answers.rt:46:1
 same-length-2 : tie.Need-same-length-2
 same-length-2 c = search needs
 
--- src/answers.rt:46:1
 returns-3 : tie.Need-returns-3
 returns-3 c = let t = c .before .before .before .before .before .before .take-request .ensures in rw (c .before .before .before .before .before .before .before .before .before .before .before .before .before .before .state .given .1, ← (c .before .before .before .before .before .before .before .before .before .next-segment .ensures)) ((λ i. record { job = t .0 i; waits = c .before .before .before .before .before .before .before .before .before .before .before .before .before .before .before .before .before .before .args .entry .waits }), (t .1 .0, (t .1 .1 .0, (t .1 .1 .1 .0, t .1 .1 .1 .1))))
 

@@ -23,72 +23,55 @@ Inv-loop records devices needs before after areas₀ a₀ areas a = (a ≤ 8) ×
 abbrev μ-loop : tie.MeasureT-loop
 μ-loop records devices needs before after areas₀ a₀ areas a = 8 - a
 
--- src/close.rt:143:22
 fresh-requires : tie.Need-fresh-requires Inv-loop μ-loop
 fresh-requires c κs = search needs
 
--- src/close.rt:145:5
 loop-holds : tie.Need-loop-holds Inv-loop μ-loop
 unfolding table
 loop-holds c = (omega arith, rw (c .fresh .ensures))
 
--- src/close.rt:146:39
 array-read-state-on : tie.Need-array-read-state-on Inv-loop μ-loop
 array-read-state-on c = search needs
 
--- src/close.rt:146:39
 cast-state-on : tie.Need-cast-state-on Inv-loop μ-loop
 cast-state-on c = search needs
 
--- src/close.rt:146:13
 state-on-requires : tie.Need-state-on-requires Inv-loop μ-loop
 state-on-requires c κs = search needs
 
--- src/close.rt:147:41
 cast-closed-area : tie.Need-cast-closed-area Inv-loop μ-loop
 cast-closed-area c = search needs
 
--- src/close.rt:147:50
 mul-closed-area : tie.Need-mul-closed-area Inv-loop μ-loop
 mul-closed-area c = search needs
 
--- src/close.rt:147:50
 array-copy-out-closed-area : tie.Need-array-copy-out-closed-area Inv-loop μ-loop
 array-copy-out-closed-area c = search needs
 
--- src/close.rt:147:61
 mul-closed-area-2 : tie.Need-mul-closed-area-2 Inv-loop μ-loop
 mul-closed-area-2 c = search needs
 
--- src/close.rt:147:61
 array-copy-out-closed-area-2 : tie.Need-array-copy-out-closed-area-2 Inv-loop μ-loop
 array-copy-out-closed-area-2 c = search needs
 
--- src/close.rt:147:20
 closed-area-requires : tie.Need-closed-area-requires Inv-loop μ-loop
 closed-area-requires c κs = search needs
 
--- src/close.rt:147:9
 mul-areas : tie.Need-mul-areas Inv-loop μ-loop
 mul-areas c = search needs
 
--- src/close.rt:147:9
 array-set-from-areas : tie.Need-array-set-from-areas Inv-loop μ-loop
 array-set-from-areas c = search needs
 
--- src/close.rt:148:9
 add-a : tie.Need-add-a Inv-loop μ-loop
 add-a c = search needs
 
--- src/close.rt:145:5
 loop-less : tie.Need-loop-less Inv-loop μ-loop
 loop-less c = search needs
 
--- src/close.rt:145:5
 loop-again : tie.Need-loop-again Inv-loop μ-loop
 loop-again c = (omega arith, (λ i. set (c .before .before .before .before .before .loop .inv .1 i) (c .before .before .before .before .before .loop .a) ((c .closed-area .ensures ∙ close-turn (c .before .before .before .before .before .before .before .args .records) (c .before .before .before .before .before .before .before .args .t2) (c .before .before .before .before .before .before .before .args .t3) (c .before .before .before .before .before .before .before .args .t4) (c .before .before .before .before .before .before .before .args .devices) (c .before .before .before .before .before .loop .a) (c .before .before .before .state-on .result) (c .before .before .before .state-on .ensures)) i)) ∙ sym (table-more 8 _ _ _))
 
--- src/close.rt:134:1
 returns : tie.Need-returns Inv-loop μ-loop
 unfolding areasAfter
 returns c = c .before .loop .inv .1 ∙ ap (table 8 _ freshArea) (omega (arith, c .before .loop .inv .0, c .loop-test .left))

@@ -10,31 +10,24 @@ use Rattle.jobs.proofs.is_pending.Reads as is-pending-reads
 use Rattle.rounds.proofs.close.counted.Reads as counted-reads
 use Rattle.rounds.proofs.close.wait_on.Reads as wait-on-reads
 
--- src/close.rt:122:9
 is-pending-requires : tie.Need-is-pending-requires
 is-pending-requires c κs = search needs
 
--- src/close.rt:123:9
 returns : tie.Need-returns
 returns c = rw (sym (c .before .is-pending .ensures) ∙ not-true _ (c .if1 .taken))
 
--- src/close.rt:125:9
 is-pending-requires-2 : tie.Need-is-pending-requires-2
 is-pending-requires-2 c κs = search needs
 
--- src/close.rt:126:9
 returns-2 : tie.Need-returns-2
 returns-2 c = rw (sym (c .before .before .before .is-pending .ensures) ∙ not-false _ (c .before .before .if1 .left), sym (c .before .is-pending2 .ensures) ∙ not-true _ (c .if2 .taken))
 
--- src/close.rt:128:9
 wait-on-requires : tie.Need-wait-on-requires
 wait-on-requires c κs = search needs
 
--- src/close.rt:129:9
 counted-requires : tie.Need-counted-requires
 counted-requires c κs = search needs
 
--- src/close.rt:110:1
 returns-3 : tie.Need-returns-3
 returns-3 c = rw (sym (c .before .before .before .before .before .is-pending .ensures) ∙ not-false _ (c .before .before .before .before .if1 .left), sym (c .before .before .before .is-pending2 .ensures) ∙ not-false _ (c .before .before .if2 .left)) (ap (λ w. record { job = c .before .before .before .before .before .before .before .before .before .args .after .job; waits = w }) (c .counted .ensures ∙ ap (λ k. counted k (c .before .before .before .before .before .before .before .before .before .args .before .waits)) (c .before .wait-on .ensures)))
 

@@ -1,24 +1,19 @@
 use Rattle.rounds.specs.CloseLaws.{no-priority}
-use borrow.Author.Tests.{le-leb}
 use borrow.Author.Needs.{needs}
 use Rattle.rounds.proofs.close.priority_of.Statement.{statement}
 use Rattle.rounds.proofs.close.priority_of.Tie as tie
 use Rattle.rounds.proofs.close.priority_of.Reads as reads
 use Rattle.rounds.proofs.close.priority_of.Lts as lts
 
--- src/close.rt:75:9
 returns : tie.Need-returns
 returns c = no-priority (c .before .args .t1) (c .before .args .area) 8 (c .before .good .0 .1 .0 .1) (c .if1 .taken)
 
--- src/close.rt:77:18
 mul-record : tie.Need-mul-record
 mul-record c = search needs
 
--- src/close.rt:77:18
 array-copy-out-record : tie.Need-array-copy-out-record
 array-copy-out-record c = search needs
 
--- src/close.rt:71:1
 returns-2 : tie.Need-returns-2
 returns-2 c = search needs
 

@@ -1,6 +1,5 @@
 use mathlib.Core.Path.{sym, _∙_}
 use Rattle.rounds.specs.CloseLaws.{behind-own, behind-above, behind-below}
-use borrow.Author.Tests.{eq-eqb, ne-eqb}
 use borrow.Author.Needs.{needs}
 use Rattle.rounds.proofs.close.wait_behind.Statement.{statement}
 use Rattle.rounds.proofs.close.wait_behind.Tie as tie
@@ -9,27 +8,21 @@ use Rattle.rounds.proofs.close.wait_behind.Lts as lts
 use Rattle.rounds.proofs.close.priority_of.Reads as priority-of-reads
 use Rattle.rounds.proofs.picks.ranks_above.Reads as ranks-above-reads
 
--- src/close.rt:86:9
 returns : tie.Need-returns
 returns c = behind-own (c .before .args .records) (c .before .args .area) (c .before .args .runner) (c .if1 .taken)
 
--- src/close.rt:88:9
 priority-of-requires : tie.Need-priority-of-requires
 priority-of-requires c κs = search needs
 
--- src/close.rt:89:9
 priority-of-requires-2 : tie.Need-priority-of-requires-2
 priority-of-requires-2 c κs = search needs
 
--- src/close.rt:90:8
 ranks-above-requires : tie.Need-ranks-above-requires
 ranks-above-requires c κs = search needs
 
--- src/close.rt:91:9
 returns-2 : tie.Need-returns-2
 returns-2 c = behind-above (c .before .before .before .before .before .args .records) (c .before .before .before .before .before .args .area) (c .before .before .before .before .before .args .runner) (c .before .before .before .before .if1 .left) (c .before .before .before .priority-of .result) (c .before .before .priority-of2 .result) (c .before .before .before .priority-of .ensures) (c .before .before .priority-of2 .ensures) (sym (c .before .ranks-above .ensures) ∙ c .if2 .taken)
 
--- src/close.rt:82:1
 returns-3 : tie.Need-returns-3
 returns-3 c = behind-below (c .before .before .before .before .before .args .records) (c .before .before .before .before .before .args .area) (c .before .before .before .before .before .args .runner) (c .before .before .before .before .if1 .left) (c .before .before .before .priority-of .result) (c .before .before .priority-of2 .result) (c .before .before .before .priority-of .ensures) (c .before .before .priority-of2 .ensures) (sym (c .before .ranks-above .ensures) ∙ c .if2 .left)
 

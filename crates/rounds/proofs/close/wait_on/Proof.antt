@@ -5,31 +5,24 @@ use Rattle.rounds.proofs.close.wait_on.Reads as reads
 use Rattle.rounds.proofs.close.wait_on.Lts as lts
 use Rattle.rounds.proofs.close.wait_behind.Reads as wait-behind-reads
 
--- src/close.rt:100:30
 enum-told : tie.Need-enum-told
 enum-told c = search needs
 
--- src/close.rt:101:38
 enum-told-2 : tie.Need-enum-told-2
 enum-told-2 c = search needs
 
--- src/close.rt:103:19
 enum-known-state : tie.Need-enum-known-state
 enum-known-state c = search needs
 
--- src/close.rt:105:14
 wait-behind-requires : tie.Need-wait-behind-requires
 wait-behind-requires c κs = search needs
 
--- src/close.rt:96:1
 returns : tie.Need-returns
 returns c = search needs
 
--- src/close.rt:96:1
 returns-2 : tie.Need-returns-2
 returns-2 c = search needs
 
--- src/close.rt:96:1
 returns-3 : tie.Need-returns-3
 returns-3 c = simp (← (c .wait-behind .ensures), c .before .before .state .given .1)
 

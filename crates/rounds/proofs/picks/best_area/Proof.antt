@@ -1,7 +1,6 @@
-use Rattle.arith.specs.Cases.{pick}
-use Rattle.rounds.specs.Picks.{bestTo, readyIn, betterOf, best-turn}
+use Rattle.rounds.specs.Picks.{bestTo, readyIn, best-turn}
 use native.Mathlib.Omega.{arith}
-use mathlib.Core.Path.{_≡_, refl, sym, ap, _∙_}
+use mathlib.Core.Path.{_≡_, refl, ap, _∙_}
 use Prim.Native.Nat.{_-_, _≤_}
 use borrow.Author.Needs.{needs}
 use Rattle.rounds.proofs.picks.best_area.Statement.{statement}
@@ -17,56 +16,43 @@ Inv-loop count device records needs areas best₀ a₀ best a = (a ≤ count) ×
 abbrev μ-loop : tie.MeasureT-loop
 μ-loop count device records needs areas best₀ a₀ best a = count - a
 
--- src/picks.rt:120:5
 loop-holds : tie.Need-loop-holds Inv-loop μ-loop
 unfolding bestTo
 loop-holds c = (omega arith, refl)
 
--- src/picks.rt:121:21
 mul-entry : tie.Need-mul-entry Inv-loop μ-loop
 mul-entry c = search needs
 
--- src/picks.rt:121:21
 array-copy-out-entry : tie.Need-array-copy-out-entry Inv-loop μ-loop
 array-copy-out-entry c = search needs
 
--- src/picks.rt:123:22
 mul-record : tie.Need-mul-record Inv-loop μ-loop
 mul-record c = search needs
 
--- src/picks.rt:123:22
 array-copy-out-record : tie.Need-array-copy-out-record Inv-loop μ-loop
 array-copy-out-record c = search needs
 
--- src/picks.rt:124:35
 array-read-is-ready : tie.Need-array-read-is-ready Inv-loop μ-loop
 array-read-is-ready c = search needs
 
--- src/picks.rt:124:13
 is-ready-requires : tie.Need-is-ready-requires Inv-loop μ-loop
 is-ready-requires c κs = search needs
 
--- src/picks.rt:125:33
 cast-better-if : tie.Need-cast-better-if Inv-loop μ-loop
 cast-better-if c = search needs
 
--- src/picks.rt:125:9
 better-if-requires : tie.Need-better-if-requires Inv-loop μ-loop
 better-if-requires c κs = search needs
 
--- src/picks.rt:126:9
 add-a : tie.Need-add-a Inv-loop μ-loop
 add-a c = search needs
 
--- src/picks.rt:120:5
 loop-less : tie.Need-loop-less Inv-loop μ-loop
 loop-less c = search needs
 
--- src/picks.rt:120:5
 loop-again : tie.Need-loop-again Inv-loop μ-loop
 loop-again c = (omega arith, best-turn (c .before .before .before .before .before .before .before .args .t1) (readyIn (c .before .before .before .before .before .before .before .args .t3) (c .before .before .before .before .before .before .before .args .t4) (c .before .before .before .before .before .before .before .args .device)) (c .before .before .before .before .before .before .loop .a) (c .before .is-ready .result) (c .before .before .before .before .before .before .loop .best) (c .better-if .result) (c .before .before .before .before .before .before .loop .inv .1) (c .before .is-ready .ensures) (c .better-if .ensures))
 
--- src/picks.rt:108:1
 returns : tie.Need-returns Inv-loop μ-loop
 returns c = c .before .loop .inv .1 ∙ ap (bestTo _ _) (omega arith)
 

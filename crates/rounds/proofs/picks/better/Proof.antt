@@ -5,29 +5,23 @@ use Rattle.rounds.proofs.picks.better.Reads as reads
 use Rattle.rounds.proofs.picks.better.Lts as lts
 use Rattle.rounds.proofs.picks.ranks_above.Reads as ranks-above-reads
 
--- src/picks.rt:75:25
 enum-told : tie.Need-enum-told
 enum-told c = search needs
 
--- src/picks.rt:77:19
 enum-known-best : tie.Need-enum-known-best
 enum-known-best c = search needs
 
--- src/picks.rt:80:16
 ranks-above-requires : tie.Need-ranks-above-requires
 ranks-above-requires c κs = search needs
 
--- src/picks.rt:81:17
 returns : tie.Need-returns
 unfolding Rattle.rules.specs.Machine.best
 returns c = simp (c .if1 .taken, ← (c .before .ranks-above .ensures), c .before .before .before .best .given .1)
 
--- src/picks.rt:71:1
 returns-2 : tie.Need-returns-2
 unfolding Rattle.rules.specs.Machine.best
 returns-2 c = simp (c .enum-told .given .1)
 
--- src/picks.rt:71:1
 returns-3 : tie.Need-returns-3
 unfolding Rattle.rules.specs.Machine.best
 returns-3 c = simp (c .if1 .left, ← (c .before .ranks-above .ensures), c .before .before .before .best .given .1)

@@ -6,15 +6,12 @@ use Rattle.rounds.proofs.picks.better_if.Reads as reads
 use Rattle.rounds.proofs.picks.better_if.Lts as lts
 use Rattle.rounds.proofs.picks.better.Reads as better-reads
 
--- src/picks.rt:93:9
 returns : tie.Need-returns
 returns c = rw (not-true (c .before .args .ready) (c .if1 .taken))
 
--- src/picks.rt:95:5
 better-requires : tie.Need-better-requires
 better-requires c κs = search needs
 
--- src/picks.rt:89:1
 returns-2 : tie.Need-returns-2
 returns-2 c = rw (not-false (c .before .before .args .ready) (c .before .if1 .left)) (c .better .ensures)
 

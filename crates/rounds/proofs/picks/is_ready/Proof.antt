@@ -7,15 +7,12 @@ use Rattle.rounds.proofs.picks.is_ready.Reads as reads
 use Rattle.rounds.proofs.picks.is_ready.Lts as lts
 use Rattle.jobs.proofs.is_pending.Reads as is-pending-reads
 
--- src/picks.rt:91:9
 is-pending-requires : tie.Need-is-pending-requires
 is-pending-requires c κs = search needs
 
--- src/picks.rt:92:9
 returns : tie.Need-returns
 returns c = simp (sym (c .before .is-pending .ensures) ∙ not-true _ (c .if1 .taken))
 
--- src/picks.rt:88:1
 returns-2 : tie.Need-returns-2
 returns-2 c = simp (sym (c .before .is-pending .ensures) ∙ not-false _ (c .if1 .left))
 

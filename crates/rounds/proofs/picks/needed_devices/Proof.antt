@@ -17,36 +17,28 @@ Inv-loop dues needs₀ a₀ needs a = (a ≤ 8) × (needs ≡ table 8 (λ i. get
 abbrev μ-loop : tie.MeasureT-loop
 μ-loop dues needs₀ a₀ needs a = 8 - a
 
--- src/picks.rt:30:5
 loop-holds : tie.Need-loop-holds Inv-loop μ-loop
 unfolding table
 loop-holds c = (omega arith, refl)
 
--- src/picks.rt:31:19
 mul-due : tie.Need-mul-due Inv-loop μ-loop
 mul-due c = search needs
 
--- src/picks.rt:31:19
 array-copy-out-due : tie.Need-array-copy-out-due Inv-loop μ-loop
 array-copy-out-due c = search needs
 
--- src/picks.rt:32:9
 array-write-needs : tie.Need-array-write-needs Inv-loop μ-loop
 array-write-needs c = search needs
 
--- src/picks.rt:33:9
 add-a : tie.Need-add-a Inv-loop μ-loop
 add-a c = search needs
 
--- src/picks.rt:30:5
 loop-less : tie.Need-loop-less Inv-loop μ-loop
 loop-less c = search needs
 
--- src/picks.rt:30:5
 loop-again : tie.Need-loop-again Inv-loop μ-loop
 loop-again c = (omega arith, (λ i. set (c .before .before .loop .inv .1 i) (c .before .before .loop .a) (getD (c .before .before .before .args .t1) (c .before .before .loop .a) noSegment .device)) ∙ sym (table-more 8 _ _ _))
 
--- src/picks.rt:25:1
 returns : tie.Need-returns Inv-loop μ-loop
 unfolding needsOf
 returns c = c .before .loop .inv .1 ∙ ap (table 8 _ 0) (omega arith)

@@ -4,15 +4,12 @@ use Rattle.rounds.proofs.picks.ranks_above.Tie as tie
 use Rattle.rounds.proofs.picks.ranks_above.Reads as reads
 use Rattle.rounds.proofs.picks.ranks_above.Lts as lts
 
--- src/picks.rt:63:9
 returns : tie.Need-returns
 returns c = simp (lt-ltb _ _ (c .if1 .taken))
 
--- src/picks.rt:66:9
 returns-2 : tie.Need-returns-2
 returns-2 c = simp (ne-eqb _ _ (c .if2 .taken), le-ltb _ _ (c .before .if1 .left))
 
--- src/picks.rt:59:1
 returns-3 : tie.Need-returns-3
 returns-3 c = simp (eq-eqb _ _ (c .if2 .left), le-ltb _ _ (c .before .if1 .left))
 

@@ -6,30 +6,24 @@ use Rattle.segment.proofs.Seek.meet.Reads as reads
 use Rattle.segment.proofs.Seek.meet.Lts as lts
 use Rattle.plan.proofs.records.SubAreaRecord.size.Reads as size-reads
 
--- src/lib.rt:54:13
 returns : tie.Need-returns
 unfolding Rattle.segment.specs.Lookup.met
 returns c = simp (c .if1 .taken)
 
--- src/lib.rt:56:12
 cast-if2 : tie.Need-cast-if2
 cast-if2 c = search needs
 
--- src/lib.rt:57:13
 returns-2 : tie.Need-returns-2
 unfolding Rattle.segment.specs.Lookup.met
 returns-2 c = simp (ne-eqb _ _ (c .if2 .taken), c .before .before .if1 .left)
 
--- src/lib.rt:59:13
 size-requires : tie.Need-size-requires
 size-requires c κs = search needs
 
--- src/lib.rt:61:13
 returns-3 : tie.Need-returns-3
 unfolding Rattle.segment.specs.Lookup.met
 returns-3 c = simp (lt-ltb _ _ (c .if3 .taken), ← (c .before .before .size .ensures .0), eq-eqb _ _ (c .before .before .before .if2 .left), c .before .before .before .before .before .if1 .left)
 
--- src/lib.rt:50:5
 returns-4 : tie.Need-returns-4
 unfolding Rattle.segment.specs.Lookup.met
 returns-4 c = simp (le-ltb _ _ (c .before .if3 .left), ← (c .before .before .before .size .ensures .0), eq-eqb _ _ (c .before .before .before .before .if2 .left), c .before .before .before .before .before .before .if1 .left)

@@ -9,35 +9,27 @@ use Rattle.session.proofs.fold.play_last.Reads as reads
 use Rattle.session.proofs.fold.play_last.Lts as lts
 use Rattle.session.proofs.play.play.Reads as play-reads
 
--- src/fold.rt:34:9
 returns : tie.Need-returns
 returns c = let a = c .before .before .before .before .before .args in (last-open (a .rest .now) (sessionOf (a .manager) (a .image .now) (a .store .now) (a .out .now) (a .end) (a .used)) (a .ends) (not-true _ (c .if1 .taken)), (omega arith, omega arith))
 
--- src/fold.rt:41:9
 returns-2 : tie.Need-returns-2
 returns-2 c = let a = c .before .before .before .before .before .before .args in (last-empty (a .rest .now) (sessionOf (a .manager) (a .image .now) (a .store .now) (a .out .now) (a .end) (a .used)) (a .ends) (omega arith), (omega arith, omega arith))
 
--- src/fold.rt:47:9
 play-requires : tie.Need-play-requires
 play-requires c κs = search needs
 
--- src/fold.rt:51:15
 add-t19 : tie.Need-add-t19
 add-t19 c = search needs
 
--- src/fold.rt:19:1
 same-length : tie.Need-same-length
 same-length c = search needs
 
--- src/fold.rt:19:1
 same-length-2 : tie.Need-same-length-2
 same-length-2 c = search needs
 
--- src/fold.rt:19:1
 same-length-3 : tie.Need-same-length-3
 same-length-3 c = search needs
 
--- src/fold.rt:19:1
 returns-3 : tie.Need-returns-3
 returns-3 c = let a = c .before .before .before .before .before .before .before .before .before .before .before .before .before .before .before .before .before .args in
     let p = c .before .before .before .before .before .before .before .play .ensures in

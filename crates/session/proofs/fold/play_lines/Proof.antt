@@ -20,66 +20,51 @@ Inv-loop input ends image₀ store₀ out₀ next₀ at₀ end₀ image store ou
 abbrev μ-loop : tie.MeasureT-loop
 μ-loop input ends image₀ store₀ out₀ next₀ at₀ end₀ image store out next at end = length input + 1 - at
 
--- src/fold.rt:72:5
 loop-holds : tie.Need-loop-holds Inv-loop μ-loop
 loop-holds c = let a = c .before .before .before .before .args in
     (omega arith, omega arith, refl, refl, refl, ap (λ F. playedLines (a .ends) (length (a .out .now)) F (sessionOf (a .manager) (a .image .now) (a .store .now) (a .out .now) 0 0)) (fields-all 10 (a .input .now)))
 
--- src/fold.rt:73:24
 add-if1 : tie.Need-add-if1 Inv-loop μ-loop
 add-if1 c = search needs
 
--- src/fold.rt:74:13
 same-length : tie.Need-same-length Inv-loop μ-loop
 same-length c = search needs
 
--- src/fold.rt:74:13
 same-length-2 : tie.Need-same-length-2 Inv-loop μ-loop
 same-length-2 c = search needs
 
--- src/fold.rt:74:13
 same-length-3 : tie.Need-same-length-3 Inv-loop μ-loop
 same-length-3 c = search needs
 
--- src/fold.rt:74:13
 returns : tie.Need-returns Inv-loop μ-loop
 returns c = let l = c .before .before .loop in
     let a = c .before .before .before .before .before .before .before .args in
     (lines-full (a .ends) (length (a .out .now)) (l .next) (l .image) (l .store) (l .out) (l .end) (l .at) (omega arith) (omega arith) (cutFrom 10 (a .input .now) (l .at)) ∙ l .inv .5, (omega arith, omega arith))
 
--- src/fold.rt:80:13
 part-end-requires : tie.Need-part-end-requires Inv-loop μ-loop
 part-end-requires c κs = search needs
 
--- src/fold.rt:82:36
 sub-play-last : tie.Need-sub-play-last Inv-loop μ-loop
 sub-play-last c = search needs
 
--- src/fold.rt:82:36
 part-play-last-start : tie.Need-part-play-last-start Inv-loop μ-loop
 part-play-last-start c = search needs
 
--- src/fold.rt:82:36
 part-play-last-end : tie.Need-part-play-last-end Inv-loop μ-loop
 part-play-last-end c = search needs
 
--- src/fold.rt:82:13
 play-last-requires : tie.Need-play-last-requires Inv-loop μ-loop
 play-last-requires c κs = search needs
 
--- src/fold.rt:82:13
 same-length-4 : tie.Need-same-length-4 Inv-loop μ-loop
 same-length-4 c = search needs
 
--- src/fold.rt:82:13
 same-length-5 : tie.Need-same-length-5 Inv-loop μ-loop
 same-length-5 c = search needs
 
--- src/fold.rt:82:13
 same-length-6 : tie.Need-same-length-6 Inv-loop μ-loop
 same-length-6 c = search needs
 
--- src/fold.rt:82:13
 returns-2 : tie.Need-returns-2 Inv-loop μ-loop
 returns-2 c = let l = c .before .before .before .before .before .before .before .before .before .before .before .before .before .before .before .loop in
     let a = c .before .before .before .before .before .before .before .before .before .before .before .before .before .before .before .before .before .before .before .before .args in
@@ -93,31 +78,24 @@ returns-2 c = let l = c .before .before .before .before .before .before .before 
       (p .1 .0, omega (arith, p .1 .1, word-length (a .input .now) (l .at) (e .result) (omega arith) (omega arith))),
     )
 
--- src/fold.rt:84:33
 sub-play : tie.Need-sub-play Inv-loop μ-loop
 sub-play c = search needs
 
--- src/fold.rt:84:33
 part-play-start : tie.Need-part-play-start Inv-loop μ-loop
 part-play-start c = search needs
 
--- src/fold.rt:84:33
 part-play-end : tie.Need-part-play-end Inv-loop μ-loop
 part-play-end c = search needs
 
--- src/fold.rt:84:13
 play-requires : tie.Need-play-requires Inv-loop μ-loop
 play-requires c κs = search needs
 
--- src/fold.rt:87:14
 add-at : tie.Need-add-at Inv-loop μ-loop
 add-at c = omega (arith, c .before .before .before .before .before .before .before .before .before .before .before .before .before .part-end .ensures .1, c .before .before .before .before .before .before .before .before .before .before .before .before .before .before .before .before .before .before .before .before .before .good .1 .0)
 
--- src/fold.rt:72:5
 loop-less : tie.Need-loop-less Inv-loop μ-loop
 loop-less c = search needs
 
--- src/fold.rt:72:5
 loop-again : tie.Need-loop-again Inv-loop μ-loop
 loop-again c = let l = c .before .before .before .before .before .before .before .before .before .before .before .before .before .before .before .before .loop in
     let a = c .before .before .before .before .before .before .before .before .before .before .before .before .before .before .before .before .before .before .before .before .before .args in
@@ -139,19 +117,15 @@ loop-again c = let l = c .before .before .before .before .before .before .before
           ∙ l .inv .5,
     )
 
--- src/fold.rt:58:1
 same-length-7 : tie.Need-same-length-7 Inv-loop μ-loop
 same-length-7 c = search needs
 
--- src/fold.rt:58:1
 same-length-8 : tie.Need-same-length-8 Inv-loop μ-loop
 same-length-8 c = search needs
 
--- src/fold.rt:58:1
 same-length-9 : tie.Need-same-length-9 Inv-loop μ-loop
 same-length-9 c = search needs
 
--- src/fold.rt:58:1
 returns-3 : tie.Need-returns-3 Inv-loop μ-loop
 returns-3 c = absurd (omega arith)
 

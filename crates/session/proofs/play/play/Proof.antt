@@ -7,27 +7,21 @@ use Rattle.session.proofs.play.play.Lts as lts
 use Rattle.lines.proofs.line_of.Reads as line-of-reads
 use Rattle.session.proofs.play.play_line.Reads as play-line-reads
 
--- src/play.rt:128:9
 line-of-requires : tie.Need-line-of-requires
 line-of-requires c κs = search needs
 
--- src/play.rt:129:5
 play-line-requires : tie.Need-play-line-requires
 play-line-requires c κs = search needs
 
--- src/play.rt:113:1
 same-length : tie.Need-same-length
 same-length c = search needs
 
--- src/play.rt:113:1
 same-length-2 : tie.Need-same-length-2
 same-length-2 c = search needs
 
--- src/play.rt:113:1
 same-length-3 : tie.Need-same-length-3
 same-length-3 c = search needs
 
--- src/play.rt:113:1
 returns : tie.Need-returns
 returns c = let a = c .before .before .before .before .before .before .before .before .before .before .before .before .before .before .before .before .args in line-done (a .line .now) _ (a .manager) _ (record { image = a .image .now; store = a .store .now }) (record { image = _; store = _ }) (c .before .before .before .before .before .before .before .before .before .before .line-of .ensures) (c .before .before .before .before .before .before .play-line .ensures)
 

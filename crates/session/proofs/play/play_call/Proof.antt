@@ -10,27 +10,21 @@ use Rattle.memory.proofs.Admission.number.Reads as number-reads
 use Rattle.session.proofs.play.make.Reads as make-reads
 use Rattle.texts.proofs.number_line.Reads as number-line-reads
 
--- src/play.rt:52:9
 make-requires : tie.Need-make-requires
 make-requires c κs = search needs
 
--- src/play.rt:54:9
 number-requires : tie.Need-number-requires
 number-requires c κs = search needs
 
--- src/play.rt:56:36
 cast-number-line : tie.Need-cast-number-line
 cast-number-line c = search needs
 
--- src/play.rt:56:9
 number-line-requires : tie.Need-number-line-requires
 number-line-requires c κs = search needs
 
--- src/play.rt:48:1
 same-length : tie.Need-same-length
 same-length c = search needs
 
--- src/play.rt:48:1
 returns : tie.Need-returns
 unfolding Rattle.texts.specs.Texts.numberLine
 returns c = (c .before .before .before .before .before .before .make .ensures .1, number-same (c .before .before .before .before .before .number .ensures ∙ c .before .before .before .before .before .before .make .ensures .0) (c .before .before .number-line .ensures .0), omega arith)

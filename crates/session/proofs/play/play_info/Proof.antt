@@ -12,39 +12,30 @@ use Rattle.memory.proofs.Admission.number.Reads as number-reads
 use Rattle.texts.proofs.info_line.Reads as info-line-reads
 use Rattle.texts.proofs.number_line.Reads as number-line-reads
 
--- src/play.rt:66:9
 job-info-requires : tie.Need-job-info-requires
 job-info-requires c κs = search needs
 
--- src/play.rt:68:9
 number-requires : tie.Need-number-requires
 number-requires c κs = search needs
 
--- src/play.rt:70:37
 cast-number-line : tie.Need-cast-number-line
 cast-number-line c = search needs
 
--- src/play.rt:70:9
 number-line-requires : tie.Need-number-line-requires
 number-line-requires c κs = search needs
 
--- src/play.rt:70:9
 same-length : tie.Need-same-length
 same-length c = search needs
 
--- src/play.rt:70:9
 returns : tie.Need-returns
 returns c = (info-refused (infoNumberOf (c .before .before .before .before .before .before .before .before .args .manager) (c .before .before .before .before .before .before .before .before .args .area)) _ (c .before .before .before .before .before .number .ensures ∙ c .before .before .before .before .before .before .job-info .ensures .0) _ (infoOf (c .before .before .before .before .before .before .before .before .args .manager) (c .before .before .before .before .before .before .before .before .args .area)) (c .before .before .before .before .before .before .job-info .ensures .1) (c .before .before .before .before .if1 .taken) (c .before .before .number-line .ensures .0), omega arith)
 
--- src/play.rt:75:5
 info-line-requires : tie.Need-info-line-requires
 info-line-requires c κs = search needs
 
--- src/play.rt:62:1
 same-length-2 : tie.Need-same-length-2
 same-length-2 c = search needs
 
--- src/play.rt:62:1
 returns-2 : tie.Need-returns-2
 returns-2 c = (info-accepted (infoNumberOf (c .before .before .before .before .before .before .before .before .before .before .before .args .manager) (c .before .before .before .before .before .before .before .before .before .before .before .args .area)) _ (c .before .before .before .before .before .before .before .before .number .ensures ∙ c .before .before .before .before .before .before .before .before .before .job-info .ensures .0) _ (infoOf (c .before .before .before .before .before .before .before .before .before .before .before .args .manager) (c .before .before .before .before .before .before .before .before .before .before .before .args .area)) (c .before .before .before .before .before .before .before .before .before .job-info .ensures .1) (c .before .before .before .before .before .before .before .if1 .left) (c .before .before .info-line .ensures .0), omega arith)
 

@@ -11,75 +11,57 @@ use Rattle.session.proofs.play.play_info.Reads as play-info-reads
 use Rattle.session.proofs.play.play_round.Reads as play-round-reads
 use Rattle.texts.proofs.question_line.Reads as question-line-reads
 
--- src/play.rt:124:37
 enum-told : tie.Need-enum-told
 enum-told c = search needs
 
--- src/play.rt:124:17
 question-line-requires : tie.Need-question-line-requires
 question-line-requires c κs = search needs
 
--- src/play.rt:127:20
 enum-known-line : tie.Need-enum-known-line
 enum-known-line c = search needs
 
--- src/play.rt:127:29
 play-call-requires : tie.Need-play-call-requires
 play-call-requires c κs = search needs
 
--- src/play.rt:128:20
 enum-known-line-2 : tie.Need-enum-known-line-2
 enum-known-line-2 c = search needs
 
--- src/play.rt:129:17
 play-info-requires : tie.Need-play-info-requires
 play-info-requires c κs = search needs
 
--- src/play.rt:133:13
 enum-known-line-3 : tie.Need-enum-known-line-3
 enum-known-line-3 c = search needs
 
--- src/play.rt:139:13
 play-round-requires : tie.Need-play-round-requires
 play-round-requires c κs = search needs
 
--- src/play.rt:108:1
 same-length : tie.Need-same-length
 same-length c = search needs
 
--- src/play.rt:108:1
 returns : tie.Need-returns
 returns c = let a = c .before .before .before .before .before .before .before .before .before .args in unreadable-done (a .line) (a .manager) (a .manager) (memoryOf (a .image .now) (a .store .now)) (omega arith) (c .before .before .before .before .enum-told .given .1) (c .before .before .question-line .ensures .0)
 
--- src/play.rt:108:1
 same-length-2 : tie.Need-same-length-2
 same-length-2 c = search needs
 
--- src/play.rt:108:1
 returns-2 : tie.Need-returns-2
 returns-2 c = let a = c .before .before .before .before .before .before .before .before .before .before .args in call-done (a .line) (a .manager) _ (memoryOf (a .image .now) (a .store .now)) (omega arith) _ (c .before .before .before .before .before .line .given .1) (c .before .before .play-call .ensures .0) (c .before .before .play-call .ensures .1)
 
--- src/play.rt:108:1
 same-length-3 : tie.Need-same-length-3
 same-length-3 c = search needs
 
--- src/play.rt:108:1
 returns-3 : tie.Need-returns-3
 returns-3 c = let a = c .before .before .before .before .before .before .before .before .before .before .args in info-done (a .line) (a .manager) (a .manager) (memoryOf (a .image .now) (a .store .now)) (omega arith) _ (c .before .before .before .before .before .line2 .given .1) (c .before .before .play-info .ensures .0)
 
--- src/play.rt:108:1
 same-length-4 : tie.Need-same-length-4
 same-length-4 c = search needs
 
--- src/play.rt:108:1
 same-length-5 : tie.Need-same-length-5
 same-length-5 c = search needs
 
--- src/play.rt:108:1
 same-length-6 : tie.Need-same-length-6
 same-length-6 c = search needs
 
--- src/play.rt:108:1
 returns-4 : tie.Need-returns-4
 returns-4 c = let a = c .before .before .before .before .before .before .before .before .before .before .before .before .before .before .before .before .args in
     let r = c .before .before .before .before .before .before .play-round .ensures in

@@ -13,35 +13,27 @@ use Rattle.memory.proofs.Admission.number.Reads as number-reads
 use Rattle.shown.proofs.devices_line.Reads as devices-line-reads
 use Rattle.texts.proofs.number_line.Reads as number-line-reads
 
--- src/play.rt:93:9
 round-requires : tie.Need-round-requires
 round-requires c κs = search needs
 
--- src/play.rt:96:9
 number-requires : tie.Need-number-requires
 number-requires c κs = search needs
 
--- src/play.rt:98:40
 cast-number-line : tie.Need-cast-number-line
 cast-number-line c = search needs
 
--- src/play.rt:98:13
 number-line-requires : tie.Need-number-line-requires
 number-line-requires c κs = search needs
 
--- src/play.rt:99:9
 same-length : tie.Need-same-length
 same-length c = search needs
 
--- src/play.rt:99:9
 same-length-2 : tie.Need-same-length-2
 same-length-2 c = search needs
 
--- src/play.rt:99:9
 same-length-3 : tie.Need-same-length-3
 same-length-3 c = search needs
 
--- src/play.rt:99:9
 returns : tie.Need-returns
 returns c = let a = c .before .before .before .before .before .before .before .before .before .before .before .before .before .before .before .before .before .args in
     let lent = memoryOf (a .image .now) (a .store .now) in
@@ -56,7 +48,6 @@ returns c = let a = c .before .before .before .before .before .before .before .b
       ),
     )
 
--- src/play.rt:104:9
 devices-line-requires : tie.Need-devices-line-requires
 devices-line-requires c κs = let a = c .before .before .before .before .before .before .before .before .before .before .before .before .before .before .before .before .before .args in
     let lent = memoryOf (a .image .now) (a .store .now) in
@@ -65,19 +56,15 @@ devices-line-requires c κs = let a = c .before .before .before .before .before 
     let s = round-shows (a .manager) (a .answers) lent zero _ (r .1 .0) in
     (omega arith, s .0, s .1, s .2)
 
--- src/play.rt:79:1
 same-length-4 : tie.Need-same-length-4
 same-length-4 c = search needs
 
--- src/play.rt:79:1
 same-length-5 : tie.Need-same-length-5
 same-length-5 c = search needs
 
--- src/play.rt:79:1
 same-length-6 : tie.Need-same-length-6
 same-length-6 c = search needs
 
--- src/play.rt:79:1
 returns-2 : tie.Need-returns-2
 returns-2 c = let a = c .before .before .before .before .before .before .before .before .before .before .before .before .before .before .before .before .before .before .before .before .args in
     let lent = memoryOf (a .image .now) (a .store .now) in

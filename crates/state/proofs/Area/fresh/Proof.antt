@@ -5,11 +5,9 @@ use Rattle.state.proofs.Area.fresh.Reads as reads
 use Rattle.state.proofs.Area.fresh.Lts as lts
 use Rattle.state.proofs.Job.none.Reads as none-reads
 
--- src/lib.rt:66:13
 none-requires : tie.Need-none-requires
 none-requires c κs = search needs
 
--- src/lib.rt:63:5
 returns : tie.Need-returns
 returns c = rw (c .none .ensures)
 

@@ -5,27 +5,21 @@ use Rattle.plan.proofs.records.AreaRecord.is_apart.Reads as reads
 use Rattle.plan.proofs.records.AreaRecord.is_apart.Lts as lts
 use Rattle.plan.proofs.checks.are_apart.Reads as are-apart-reads
 
--- src/checks.rt:84:13
 cast-are-apart : tie.Need-cast-are-apart
 cast-are-apart c = search needs
 
--- src/checks.rt:85:13
 cast-are-apart-2 : tie.Need-cast-are-apart-2
 cast-are-apart-2 c = search needs
 
--- src/checks.rt:86:13
 cast-are-apart-3 : tie.Need-cast-are-apart-3
 cast-are-apart-3 c = search needs
 
--- src/checks.rt:87:13
 cast-are-apart-4 : tie.Need-cast-are-apart-4
 cast-are-apart-4 c = search needs
 
--- src/checks.rt:83:9
 are-apart-requires : tie.Need-are-apart-requires
 are-apart-requires c κs = search needs
 
--- src/checks.rt:80:5
 returns : tie.Need-returns
 unfolding Rattle.plan.specs.Questions.windowsApart
 returns c = simp (← (c .are-apart .ensures))

@@ -5,11 +5,9 @@ use Rattle.plan.proofs.records.AreaRecord.window_fits.Reads as reads
 use Rattle.plan.proofs.records.AreaRecord.window_fits.Lts as lts
 use Rattle.plan.proofs.records.AreaRecord.window_end.Reads as window-end-reads
 
--- src/checks.rt:82:9
 window-end-requires : tie.Need-window-end-requires
 window-end-requires c κs = search needs
 
--- src/checks.rt:79:5
 returns : tie.Need-returns
 returns c = simp (← (c .window-end .ensures))
 

@@ -5,21 +5,17 @@ use Rattle.plan.proofs.records.DeviceRecord.joins.Tie as tie
 use Rattle.plan.proofs.records.DeviceRecord.joins.Reads as reads
 use Rattle.plan.proofs.records.DeviceRecord.joins.Lts as lts
 
--- src/checks.rt:63:12
 cast-if1 : tie.Need-cast-if1
 cast-if1 c = search needs
 
--- src/checks.rt:64:13
 returns : tie.Need-returns
 unfolding Rattle.plan.specs.Questions.deviceJoins
 returns c = simp (ne-eqb _ _ (c .if1 .taken))
 
--- src/checks.rt:67:13
 returns-2 : tie.Need-returns-2
 unfolding Rattle.plan.specs.Questions.deviceJoins
 returns-2 c = simp (lt-leb _ _ (c .if2 .taken), eq-eqb _ _ (c .before .before .if1 .left))
 
--- src/checks.rt:60:5
 returns-3 : tie.Need-returns-3
 unfolding Rattle.plan.specs.Questions.deviceJoins
 returns-3 c = simp (le-leb _ _ (c .before .if2 .left), eq-eqb _ _ (c .before .before .before .if1 .left))

@@ -7,31 +7,24 @@ use Rattle.plan.proofs.records.DeviceRecord.read.Lts as lts
 use Rattle.plan.proofs.number.u16_at.Reads as u16-at-reads
 use Rattle.plan.proofs.number.u32_at.Reads as u32-at-reads
 
--- src/records.rt:83:46
 add-u32-at : tie.Need-add-u32-at
 add-u32-at c = search needs
 
--- src/records.rt:83:32
 u32-at-requires : tie.Need-u32-at-requires
 u32-at-requires c κs = search needs
 
--- src/records.rt:84:36
 add-u32-at-2 : tie.Need-add-u32-at-2
 add-u32-at-2 c = search needs
 
--- src/records.rt:84:13
 u32-at-requires-2 : tie.Need-u32-at-requires-2
 u32-at-requires-2 c κs = search needs
 
--- src/records.rt:85:40
 add-u16-at : tie.Need-add-u16-at
 add-u16-at c = search needs
 
--- src/records.rt:85:13
 u16-at-requires : tie.Need-u16-at-requires
 u16-at-requires c κs = search needs
 
--- src/records.rt:79:5
 returns : tie.Need-returns
 unfolding deviceAt
 returns c = simp (← (c .u16-at .ensures), ← (c .before .u32-at2 .ensures), ← (c .before .before .u32-at .ensures))

@@ -6,29 +6,23 @@ use Rattle.plan.proofs.records.Granularity.fits.Reads as reads
 use Rattle.plan.proofs.records.Granularity.fits.Lts as lts
 use Rattle.plan.proofs.number.is_multiple.Reads as is-multiple-reads
 
--- src/checks.rt:102:13
 returns : tie.Need-returns
 unfolding Rattle.plan.specs.Questions.granularityFits
 returns c = simp (lt-leb _ _ (c .if1 .taken))
 
--- src/checks.rt:105:13
 returns-2 : tie.Need-returns-2
 unfolding Rattle.plan.specs.Questions.granularityFits
 returns-2 c = simp (lt-leb _ _ (c .if2 .taken), le-leb _ _ (c .before .before .if1 .left))
 
--- src/checks.rt:107:21
 cast-is-multiple : tie.Need-cast-is-multiple
 cast-is-multiple c = search needs
 
--- src/checks.rt:107:39
 cast-is-multiple-2 : tie.Need-cast-is-multiple-2
 cast-is-multiple-2 c = search needs
 
--- src/checks.rt:107:9
 is-multiple-requires : tie.Need-is-multiple-requires
 is-multiple-requires c κs = search needs
 
--- src/checks.rt:98:5
 returns-3 : tie.Need-returns-3
 unfolding Rattle.plan.specs.Questions.granularityFits
 returns-3 c = simp (← (c .is-multiple .ensures), le-leb _ _ (c .before .before .before .if2 .left), le-leb _ _ (c .before .before .before .before .before .if1 .left))

@@ -6,19 +6,15 @@ use Rattle.plan.proofs.records.Granularity.read.Reads as reads
 use Rattle.plan.proofs.records.Granularity.read.Lts as lts
 use Rattle.plan.proofs.number.u32_at.Reads as u32-at-reads
 
--- src/records.rt:138:13
 u32-at-requires : tie.Need-u32-at-requires
 u32-at-requires c κs = search needs
 
--- src/records.rt:139:35
 add-u32-at : tie.Need-add-u32-at
 add-u32-at c = search needs
 
--- src/records.rt:139:13
 u32-at-requires-2 : tie.Need-u32-at-requires-2
 u32-at-requires-2 c κs = search needs
 
--- src/records.rt:134:5
 returns : tie.Need-returns
 unfolding granularityAt
 returns c = simp (← (c .u32-at2 .ensures), ← (c .before .u32-at .ensures))

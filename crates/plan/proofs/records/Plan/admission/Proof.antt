@@ -13,43 +13,34 @@ use Rattle.plan.proofs.questions.windows_fit.Reads as windows-fit-reads
 use Rattle.plan.proofs.records.Plan.places_fit.Reads as places-fit-reads
 use Rattle.plan.proofs.records.Plan.spaces_fit.Reads as spaces-fit-reads
 
--- src/questions.rt:294:13
 devices-join-requires : tie.Need-devices-join-requires
 devices-join-requires c κs = let few = counts _ _ _ (c .before .pre) in omega arith
 
--- src/questions.rt:295:13
 returns : tie.Need-returns
 unfolding Rattle.arith.specs.FirstNo.firstNo Rattle.plan.specs.Questions.recordQuestions
 returns c = simp (not-true (c .before .devices-join .result) (c .if1 .taken), ← (c .before .devices-join .ensures))
 
--- src/questions.rt:298:13
 windows-fit-requires : tie.Need-windows-fit-requires
 windows-fit-requires c κs = let few = counts _ _ _ (c .before .before .before .before .pre) in omega arith
 
--- src/questions.rt:299:13
 returns-2 : tie.Need-returns-2
 unfolding Rattle.arith.specs.FirstNo.firstNo Rattle.plan.specs.Questions.recordQuestions
 returns-2 c = simp (not-true (c .before .windows-fit .result) (c .if2 .taken), ← (c .before .windows-fit .ensures), not-false (c .before .before .before .before .devices-join .result) (c .before .before .before .if1 .left), ← (c .before .before .before .before .devices-join .ensures))
 
--- src/questions.rt:302:13
 all-sizes-fit-requires : tie.Need-all-sizes-fit-requires
 all-sizes-fit-requires c κs = let few = counts _ _ _ (c .before .before .before .before .before .before .before .pre) in omega arith
 
--- src/questions.rt:303:13
 returns-3 : tie.Need-returns-3
 unfolding Rattle.arith.specs.FirstNo.firstNo Rattle.plan.specs.Questions.recordQuestions
 returns-3 c = simp (not-true (c .before .all-sizes-fit .result) (c .if3 .taken), ← (c .before .all-sizes-fit .ensures), not-false (c .before .before .before .before .windows-fit .result) (c .before .before .before .if2 .left), ← (c .before .before .before .before .windows-fit .ensures), not-false (c .before .before .before .before .before .before .before .devices-join .result) (c .before .before .before .before .before .before .if1 .left), ← (c .before .before .before .before .before .before .before .devices-join .ensures))
 
--- src/questions.rt:305:13
 places-fit-requires : tie.Need-places-fit-requires
 places-fit-requires c κs = let few = counts _ _ _ (c .before .before .before .before .before .before .before .before .before .pre) in (omega arith, omega arith)
 
--- src/questions.rt:306:13
 returns-4 : tie.Need-returns-4
 unfolding Rattle.arith.specs.FirstNo.firstNo Rattle.plan.specs.Questions.recordQuestions
 returns-4 c = simp (not-true (c .before .places-fit .result) (c .if4 .taken), ← (c .before .places-fit .ensures), not-false (c .before .before .before .all-sizes-fit .result) (c .before .before .if3 .left), ← (c .before .before .before .all-sizes-fit .ensures), not-false (c .before .before .before .before .before .before .windows-fit .result) (c .before .before .before .before .before .if2 .left), ← (c .before .before .before .before .before .before .windows-fit .ensures), not-false (c .before .before .before .before .before .before .before .before .before .devices-join .result) (c .before .before .before .before .before .before .before .before .if1 .left), ← (c .before .before .before .before .before .before .before .before .before .devices-join .ensures))
 
--- src/questions.rt:308:13
 spaces-fit-requires : tie.Need-spaces-fit-requires
 spaces-fit-requires c κs =
     let few = counts _ _ _ (c .before .before .before .before .before .before .before .before .before .before .before .pre) in
@@ -57,21 +48,17 @@ spaces-fit-requires c κs =
     let e = sym (c .before .places-fit .ensures) ∙ not-false (c .before .places-fit .result) (c .if4 .left) in
     ((omega arith, omega arith, omega arith), size-few _ d e)
 
--- src/questions.rt:309:13
 returns-5 : tie.Need-returns-5
 unfolding Rattle.arith.specs.FirstNo.firstNo Rattle.plan.specs.Questions.recordQuestions
 returns-5 c = simp (not-true (c .before .spaces-fit .result) (c .if5 .taken), ← (c .before .spaces-fit .ensures), not-false (c .before .before .before .places-fit .result) (c .before .before .if4 .left), ← (c .before .before .before .places-fit .ensures), not-false (c .before .before .before .before .before .all-sizes-fit .result) (c .before .before .before .before .if3 .left), ← (c .before .before .before .before .before .all-sizes-fit .ensures), not-false (c .before .before .before .before .before .before .before .before .windows-fit .result) (c .before .before .before .before .before .before .before .if2 .left), ← (c .before .before .before .before .before .before .before .before .windows-fit .ensures), not-false (c .before .before .before .before .before .before .before .before .before .before .before .devices-join .result) (c .before .before .before .before .before .before .before .before .before .before .if1 .left), ← (c .before .before .before .before .before .before .before .before .before .before .before .devices-join .ensures))
 
--- src/questions.rt:311:13
 all-apart-requires : tie.Need-all-apart-requires
 all-apart-requires c κs = let few = counts _ _ _ (c .before .before .before .before .before .before .before .before .before .before .before .before .before .pre) in omega arith
 
--- src/questions.rt:312:13
 returns-6 : tie.Need-returns-6
 unfolding Rattle.arith.specs.FirstNo.firstNo Rattle.plan.specs.Questions.recordQuestions
 returns-6 c = simp (not-true (c .before .all-apart .result) (c .if6 .taken), ← (c .before .all-apart .ensures), not-false (c .before .before .before .spaces-fit .result) (c .before .before .if5 .left), ← (c .before .before .before .spaces-fit .ensures), not-false (c .before .before .before .before .before .places-fit .result) (c .before .before .before .before .if4 .left), ← (c .before .before .before .before .before .places-fit .ensures), not-false (c .before .before .before .before .before .before .before .all-sizes-fit .result) (c .before .before .before .before .before .before .if3 .left), ← (c .before .before .before .before .before .before .before .all-sizes-fit .ensures), not-false (c .before .before .before .before .before .before .before .before .before .before .windows-fit .result) (c .before .before .before .before .before .before .before .before .before .if2 .left), ← (c .before .before .before .before .before .before .before .before .before .before .windows-fit .ensures), not-false (c .before .before .before .before .before .before .before .before .before .before .before .before .before .devices-join .result) (c .before .before .before .before .before .before .before .before .before .before .before .before .if1 .left), ← (c .before .before .before .before .before .before .before .before .before .before .before .before .before .devices-join .ensures))
 
--- src/questions.rt:289:5
 returns-7 : tie.Need-returns-7
 unfolding Rattle.arith.specs.FirstNo.firstNo Rattle.plan.specs.Questions.recordQuestions
 returns-7 c = simp (not-false (c .before .all-apart .result) (c .if6 .left), ← (c .before .all-apart .ensures), not-false (c .before .before .before .spaces-fit .result) (c .before .before .if5 .left), ← (c .before .before .before .spaces-fit .ensures), not-false (c .before .before .before .before .before .places-fit .result) (c .before .before .before .before .if4 .left), ← (c .before .before .before .before .before .places-fit .ensures), not-false (c .before .before .before .before .before .before .before .all-sizes-fit .result) (c .before .before .before .before .before .before .if3 .left), ← (c .before .before .before .before .before .before .before .all-sizes-fit .ensures), not-false (c .before .before .before .before .before .before .before .before .before .before .windows-fit .result) (c .before .before .before .before .before .before .before .before .before .if2 .left), ← (c .before .before .before .before .before .before .before .before .before .before .windows-fit .ensures), not-false (c .before .before .before .before .before .before .before .before .before .before .before .before .before .devices-join .result) (c .before .before .before .before .before .before .before .before .before .before .before .before .if1 .left), ← (c .before .before .before .before .before .before .before .before .before .before .before .before .before .devices-join .ensures))

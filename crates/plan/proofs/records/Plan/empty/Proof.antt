@@ -8,19 +8,15 @@ use Rattle.plan.proofs.records.AreaRecord.blank.Reads as records-AreaRe
 use Rattle.plan.proofs.records.DeviceRecord.blank.Reads as records-DeviceRecord-blank-reads
 use Rattle.plan.proofs.records.SubAreaRecord.blank.Reads as records-SubAreaRecord-blank-reads
 
--- src/records.rt:232:23
 blank-requires : tie.Need-blank-requires
 blank-requires c κs = search needs
 
--- src/records.rt:233:21
 blank-requires-2 : tie.Need-blank-requires-2
 blank-requires-2 c κs = search needs
 
--- src/records.rt:234:25
 blank-requires-3 : tie.Need-blank-requires-3
 blank-requires-3 c κs = search needs
 
--- src/records.rt:228:5
 returns : tie.Need-returns
 unfolding emptyPlan
 returns c = rw (c .blank3 .ensures, c .before .blank2 .ensures, c .before .before .blank .ensures)

@@ -5,11 +5,9 @@ use Rattle.plan.proofs.records.Plan.places_fit.Reads as reads
 use Rattle.plan.proofs.records.Plan.places_fit.Lts as lts
 use Rattle.plan.proofs.questions.all_placed.Reads as all-placed-reads
 
--- src/questions.rt:265:9
 all-placed-requires : tie.Need-all-placed-requires
 all-placed-requires c κs = search needs
 
--- src/questions.rt:259:5
 returns : tie.Need-returns
 unfolding Rattle.plan.specs.Questions.allPlaced
 returns c = simp (← (c .all-placed .ensures))

@@ -8,19 +8,15 @@ use Rattle.plan.proofs.records.read_areas.Reads as read-areas-reads
 use Rattle.plan.proofs.records.read_devices.Reads as read-devices-reads
 use Rattle.plan.proofs.records.read_sub_areas.Reads as read-sub-areas-reads
 
--- src/records.rt:247:13
 read-devices-requires : tie.Need-read-devices-requires
 read-devices-requires c κs = let k = layout-steps _ _ (c .before .pre .0 .0) in (omega arith, omega arith)
 
--- src/records.rt:248:13
 read-areas-requires : tie.Need-read-areas-requires
 read-areas-requires c κs = let k = layout-steps _ _ (c .before .before .pre .0 .0) in (omega arith, omega arith)
 
--- src/records.rt:249:13
 read-sub-areas-requires : tie.Need-read-sub-areas-requires
 read-sub-areas-requires c κs = let k = layout-steps _ _ (c .before .before .before .pre .0 .0) in (omega arith, omega arith)
 
--- src/records.rt:242:5
 returns : tie.Need-returns
 returns c = rw (c .read-sub-areas .ensures, c .before .read-areas .ensures, c .before .before .read-devices .ensures) (plan-by-layout _ (c .before .before .before .before .args .layout) (c .before .before .before .before .pre .0 .0))
 

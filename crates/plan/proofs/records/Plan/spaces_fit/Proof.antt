@@ -7,20 +7,16 @@ use Rattle.plan.proofs.records.Plan.spaces_fit.Lts as lts
 use Rattle.plan.proofs.questions.all_spaces_fit.Reads as all-spaces-fit-reads
 use Rattle.plan.proofs.questions.never_falling.Reads as never-falling-reads
 
--- src/questions.rt:281:13
 never-falling-requires : tie.Need-never-falling-requires
 never-falling-requires c κs = search needs
 
--- src/questions.rt:282:13
 returns : tie.Need-returns
 unfolding Rattle.plan.specs.Questions.spacesFit
 returns c = simp (not-true (c .before .never-falling .result) (c .if1 .taken), ← (c .before .never-falling .ensures))
 
--- src/questions.rt:285:9
 all-spaces-fit-requires : tie.Need-all-spaces-fit-requires
 all-spaces-fit-requires c κs = search needs
 
--- src/questions.rt:275:5
 returns-2 : tie.Need-returns-2
 unfolding Rattle.plan.specs.Questions.spacesFit
 returns-2 c = simp (← (c .all-spaces-fit .ensures), not-false (c .before .before .before .never-falling .result) (c .before .before .if1 .left), ← (c .before .before .before .never-falling .ensures))

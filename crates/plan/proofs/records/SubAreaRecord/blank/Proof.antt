@@ -5,19 +5,15 @@ use Rattle.plan.proofs.records.SubAreaRecord.blank.Reads as reads
 use Rattle.plan.proofs.records.SubAreaRecord.blank.Lts as lts
 use Rattle.plan.proofs.records.Granularity.blank.Reads as blank-reads
 
--- src/records.rt:152:20
 blank-requires : tie.Need-blank-requires
 blank-requires c κs = search needs
 
--- src/records.rt:153:20
 blank-requires-2 : tie.Need-blank-requires-2
 blank-requires-2 c κs = search needs
 
--- src/records.rt:154:19
 blank-requires-3 : tie.Need-blank-requires-3
 blank-requires-3 c κs = search needs
 
--- src/records.rt:145:5
 returns : tie.Need-returns
 returns c = rw (c .blank3 .ensures, c .before .blank2 .ensures, c .before .before .blank .ensures)
 

@@ -6,27 +6,21 @@ use Rattle.plan.proofs.records.SubAreaRecord.is_apart.Lts as lts
 use Rattle.plan.proofs.checks.are_apart.Reads as are-apart-reads
 use Rattle.plan.proofs.records.SubAreaRecord.size.Reads as size-reads
 
--- src/checks.rt:178:13
 cast-are-apart : tie.Need-cast-are-apart
 cast-are-apart c = search needs
 
--- src/checks.rt:179:13
 size-requires : tie.Need-size-requires
 size-requires c κs = search needs
 
--- src/checks.rt:180:13
 cast-are-apart-2 : tie.Need-cast-are-apart-2
 cast-are-apart-2 c = search needs
 
--- src/checks.rt:181:13
 size-requires-2 : tie.Need-size-requires-2
 size-requires-2 c κs = search needs
 
--- src/checks.rt:177:9
 are-apart-requires : tie.Need-are-apart-requires
 are-apart-requires c κs = search needs
 
--- src/checks.rt:174:5
 returns : tie.Need-returns
 unfolding Rattle.plan.specs.Questions.subAreasApart
 returns c = simp (← (c .are-apart .ensures), ← (c .before .size2 .ensures .0), ← (c .before .before .before .size .ensures .0))

@@ -7,20 +7,16 @@ use Rattle.plan.proofs.records.SubAreaRecord.is_inside.Lts as lts
 use Rattle.plan.proofs.records.DeviceRecord.end.Reads as records-DeviceRecord-end-reads
 use Rattle.plan.proofs.records.SubAreaRecord.end.Reads as records-SubAreaRecord-end-reads
 
--- src/checks.rt:153:13
 returns : tie.Need-returns
 unfolding Rattle.plan.specs.Questions.insideDevice
 returns c = simp (lt-leb _ _ (c .if1 .taken))
 
--- src/checks.rt:155:9
 end-requires : tie.Need-end-requires
 end-requires c κs = search needs
 
--- src/checks.rt:155:23
 end-requires-2 : tie.Need-end-requires-2
 end-requires-2 c κs = search needs
 
--- src/checks.rt:149:5
 returns-2 : tie.Need-returns-2
 unfolding Rattle.plan.specs.Questions.insideDevice
 returns-2 c = simp (← (c .end2 .ensures), ← (c .before .end .ensures), le-leb _ _ (c .before .before .if1 .left))

@@ -7,54 +7,42 @@ use Rattle.plan.proofs.records.SubAreaRecord.is_placed.Lts as lts
 use Rattle.plan.proofs.number.is_multiple.Reads as is-multiple-reads
 use Rattle.plan.proofs.records.SubAreaRecord.is_inside.Reads as is-inside-reads
 
--- src/checks.rt:166:26
 cast-if1 : tie.Need-cast-if1
 cast-if1 c = search needs
 
--- src/checks.rt:167:13
 returns : tie.Need-returns
 unfolding Rattle.plan.specs.Questions.isPlaced
 returns c = simp (le-ltb _ _ (c .if1 .taken))
 
--- src/checks.rt:169:22
 cast-device : tie.Need-cast-device
 cast-device c = search needs
 
--- src/checks.rt:171:13
 returns-2 : tie.Need-returns-2
 unfolding Rattle.plan.specs.Questions.isPlaced
 returns-2 c = simp (le-ltb _ _ (c .if2 .taken), lt-ltb _ _ (c .before .before .if1 .left))
 
--- src/checks.rt:173:25
 cast-is-multiple : tie.Need-cast-is-multiple
 cast-is-multiple c = search needs
 
--- src/checks.rt:173:49
 cast-is-multiple-2 : tie.Need-cast-is-multiple-2
 cast-is-multiple-2 c = search needs
 
--- src/checks.rt:173:13
 is-multiple-requires : tie.Need-is-multiple-requires
 is-multiple-requires c κs = search needs
 
--- src/checks.rt:174:13
 returns-3 : tie.Need-returns-3
 unfolding Rattle.plan.specs.Questions.isPlaced
 returns-3 c = simp (not-true (c .before .is-multiple .result) (c .if3 .taken), ← (c .before .is-multiple .ensures), lt-ltb _ _ (c .before .before .before .before .if2 .left), lt-ltb _ _ (c .before .before .before .before .before .before .if1 .left))
 
--- src/checks.rt:176:24
 mul-is-inside : tie.Need-mul-is-inside
 mul-is-inside c = search needs
 
--- src/checks.rt:176:24
 array-copy-out-is-inside : tie.Need-array-copy-out-is-inside
 array-copy-out-is-inside c = search needs
 
--- src/checks.rt:176:9
 is-inside-requires : tie.Need-is-inside-requires
 is-inside-requires c κs = search needs
 
--- src/checks.rt:157:5
 returns-4 : tie.Need-returns-4
 unfolding Rattle.plan.specs.Questions.isPlaced
 returns-4 c = simp (← (c .is-inside .ensures), not-false (c .before .before .before .is-multiple .result) (c .before .before .if3 .left), ← (c .before .before .before .is-multiple .ensures), lt-ltb _ _ (c .before .before .before .before .before .before .if2 .left), lt-ltb _ _ (c .before .before .before .before .before .before .before .before .if1 .left))

@@ -8,79 +8,60 @@ use Rattle.plan.proofs.number.u32_at.Reads as u32-at-reads
 use Rattle.plan.proofs.number.u8_at.Reads as u8-at-reads
 use Rattle.plan.proofs.records.Granularity.read.Reads as read-reads
 
--- src/records.rt:165:33
 add-u8-at : tie.Need-add-u8-at
 add-u8-at c = search needs
 
--- src/records.rt:165:13
 u8-at-requires : tie.Need-u8-at-requires
 u8-at-requires c κs = search needs
 
--- src/records.rt:166:35
 add-u8-at-2 : tie.Need-add-u8-at-2
 add-u8-at-2 c = search needs
 
--- src/records.rt:166:13
 u8-at-requires-2 : tie.Need-u8-at-requires-2
 u8-at-requires-2 c κs = search needs
 
--- src/records.rt:167:46
 add-u32-at : tie.Need-add-u32-at
 add-u32-at c = search needs
 
--- src/records.rt:167:32
 u32-at-requires : tie.Need-u32-at-requires
 u32-at-requires c κs = search needs
 
--- src/records.rt:168:46
 add-read : tie.Need-add-read
 add-read c = search needs
 
--- src/records.rt:168:13
 read-requires : tie.Need-read-requires
 read-requires c κs = search needs
 
--- src/records.rt:169:46
 add-read-2 : tie.Need-add-read-2
 add-read-2 c = search needs
 
--- src/records.rt:169:13
 read-requires-2 : tie.Need-read-requires-2
 read-requires-2 c κs = search needs
 
--- src/records.rt:170:45
 add-read-3 : tie.Need-add-read-3
 add-read-3 c = search needs
 
--- src/records.rt:170:13
 read-requires-3 : tie.Need-read-requires-3
 read-requires-3 c κs = search needs
 
--- src/records.rt:171:42
 add-u32-at-2 : tie.Need-add-u32-at-2
 add-u32-at-2 c = search needs
 
--- src/records.rt:171:13
 u32-at-requires-2 : tie.Need-u32-at-requires-2
 u32-at-requires-2 c κs = search needs
 
--- src/records.rt:172:42
 add-u8-at-3 : tie.Need-add-u8-at-3
 add-u8-at-3 c = search needs
 
--- src/records.rt:172:13
 u8-at-requires-3 : tie.Need-u8-at-requires-3
 u8-at-requires-3 c κs = search needs
 
--- src/records.rt:173:42
 add-u8-at-4 : tie.Need-add-u8-at-4
 add-u8-at-4 c = search needs
 
--- src/records.rt:173:13
 u8-at-requires-4 : tie.Need-u8-at-requires-4
 u8-at-requires-4 c κs = search needs
 
--- src/records.rt:161:5
 returns : tie.Need-returns
 unfolding subAreaAt
 returns c = simp (← (c .u8-at4 .ensures), ← (c .before .u8-at3 .ensures), ← (c .before .before .u32-at2 .ensures), ← (c .before .before .before .read3 .ensures), ← (c .before .before .before .before .read2 .ensures), ← (c .before .before .before .before .before .read .ensures), ← (c .before .before .before .before .before .before .u32-at .ensures), ← (c .before .before .before .before .before .before .before .u8-at2 .ensures), ← (c .before .before .before .before .before .before .before .before .u8-at .ensures))

@@ -7,19 +7,15 @@ use Rattle.plan.proofs.records.SubAreaRecord.size.Tie as tie
 use Rattle.plan.proofs.records.SubAreaRecord.size.Reads as reads
 use Rattle.plan.proofs.records.SubAreaRecord.size.Lts as lts
 
--- src/checks.rt:115:10
 cast-result : tie.Need-cast-result
 cast-result c = search needs
 
--- src/checks.rt:115:37
 cast-result-2 : tie.Need-cast-result-2
 cast-result-2 c = search needs
 
--- src/checks.rt:115:9
 mul-result : tie.Need-mul-result
 mul-result c = omega (arith, product-fits {a = c .before .before .args .self .erase .unit} {b = c .before .before .args .self .«sector_count»} (search needs) (search needs))
 
--- src/checks.rt:112:5
 returns : tie.Need-returns
 returns c = (refl, product-fits (search needs) (search needs))
 
