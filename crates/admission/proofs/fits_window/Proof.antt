@@ -1,22 +1,22 @@
-use mathlib.Core.Path.{refl}
+use borrow.Author.Tests.{not-true, not-false}
 use borrow.Author.Needs.{needs}
 use Rattle.admission.proofs.fits_window.Statement.{statement}
 use Rattle.admission.proofs.fits_window.Tie as tie
 use Rattle.admission.proofs.fits_window.Reads as reads
 use Rattle.admission.proofs.fits_window.Lts as lts
+use Rattle.admission.proofs.uses_window.Reads as uses-window-reads
 
--- src/lib.rt:100:18
-mul-record : tie.Need-mul-record
-mul-record c = search needs
+-- src/lib.rt:185:9
+uses-window-requires : tie.Need-uses-window-requires
+uses-window-requires c κs = search needs
 
--- src/lib.rt:100:18
-element-copy-out-record : tie.Need-element-copy-out-record
-element-copy-out-record c = search needs
-
--- src/lib.rt:96:1
+-- src/lib.rt:186:9
 returns : tie.Need-returns
-unfolding Rattle.rules.specs.Admission.fitsWindow
-returns c = refl
+returns c = rw (← (c .before .uses-window .ensures), not-true (c .before .uses-window .result) (c .if1 .taken))
+
+-- src/lib.rt:181:1
+returns-2 : tie.Need-returns-2
+returns-2 c = rw (← (c .before .before .before .uses-window .ensures), not-false (c .before .before .before .uses-window .result) (c .before .before .if1 .left))
 
 pub fits-window-spec : {M : Type 1} → statement M
-fits-window-spec = tie.close (tie.spec mul-record element-copy-out-record returns)
+fits-window-spec = tie.close (tie.spec uses-window-requires returns returns-2)

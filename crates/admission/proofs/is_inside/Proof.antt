@@ -1,73 +1,34 @@
-use Rattle.admission.specs.RangeLaws.{inside-none, inside-before, inside-outside, inside-at}
-use mathlib.Core.Path.{sym}
+use mathlib.Core.Path.{ap, _∙_}
+use Rattle.admission.specs.RangeLaws.{last-inside, isFound}
 use borrow.Author.Needs.{needs}
 use Rattle.admission.proofs.is_inside.Statement.{statement}
 use Rattle.admission.proofs.is_inside.Tie as tie
 use Rattle.admission.proofs.is_inside.Reads as reads
 use Rattle.admission.proofs.is_inside.Lts as lts
-use Rattle.segment.proofs.map_address.Reads as map-address-reads
+use Rattle.admission.proofs.is_found.Reads as is-found-reads
+use Rattle.admission.proofs.last_byte.Reads as last-byte-reads
 
--- src/lib.rt:16:9
-returns : tie.Need-returns
-returns c = sym (inside-none _ _ _ _ (c .if1 .taken))
-
--- src/lib.rt:18:18
+-- src/lib.rt:109:18
 mul-record : tie.Need-mul-record
 mul-record c = search needs
 
--- src/lib.rt:18:18
+-- src/lib.rt:109:18
 element-copy-out-record : tie.Need-element-copy-out-record
 element-copy-out-record c = search needs
 
--- src/lib.rt:20:9
-returns-2 : tie.Need-returns-2
-returns-2 c = sym (inside-before _ _ _ _ (c .before .before .before .before .if1 .left) (c .if2 .taken))
+-- src/lib.rt:111:9
+last-byte-requires : tie.Need-last-byte-requires
+last-byte-requires c κs = search needs
 
--- src/lib.rt:22:17
-cast-last : tie.Need-cast-last
-cast-last c = search needs
+-- src/lib.rt:112:5
+is-found-requires : tie.Need-is-found-requires
+is-found-requires c κs = search needs
 
--- src/lib.rt:22:16
-add-last : tie.Need-add-last
-add-last c = search needs
-
--- src/lib.rt:22:16
-sub-last : tie.Need-sub-last
-sub-last c = search needs
-
--- src/lib.rt:23:9
-map-address-requires : tie.Need-map-address-requires
-map-address-requires c κs = search needs
-
--- src/lib.rt:25:27
-enum-told : tie.Need-enum-told
-enum-told c = search needs
-
--- src/lib.rt:29:14
-enum-told-2 : tie.Need-enum-told-2
-enum-told-2 c = search needs
-
--- src/lib.rt:11:1
-returns-3 : tie.Need-returns-3
-returns-3 c = sym (inside-outside _ _ _ _ (c .before .before .before .before .before .before .before .before .if1 .left) (c .before .before .before .before .if2 .left) _ (c .before .before .map-address .ensures) (c .enum-told .given .1))
-
--- src/lib.rt:11:1
-returns-4 : tie.Need-returns-4
-returns-4 c = sym (inside-at _ _ _ _ (c .before .before .before .before .before .before .before .before .if1 .left) (c .before .before .before .before .if2 .left) _ (c .before .before .map-address .ensures) _ _ (c .enum-told2 .given .1))
+-- src/lib.rt:105:1
+returns : tie.Need-returns
+returns c = c .is-found .ensures ∙ ap isFound (c .before .last-byte .ensures) ∙ last-inside (c .before .before .before .before .before .args .t1) (c .before .before .before .before .before .args .area) (c .before .before .before .before .before .args .address) (c .before .before .before .before .before .args .n)
 
 pub is-inside-spec : {M : Type 1} → statement M
 is-inside-spec =
     tie.close
-    (tie.spec
-    returns
-    mul-record
-    element-copy-out-record
-    returns-2
-    cast-last
-    add-last
-    sub-last
-    map-address-requires
-    enum-told
-    enum-told-2
-    returns-3
-    returns-4)
+    (tie.spec mul-record element-copy-out-record last-byte-requires is-found-requires returns)

@@ -1,9 +1,8 @@
-use mathlib.Core.Path.{sym, _∙_}
-use native.Mathlib.Omega.{arith}
-use borrow.Author.Tests.{not-true, not-false, lt-ltb, le-ltb}
-use Rattle.arith.specs.FirstNo.{firstNo}
 use Rattle.rules.specs.Admission.{releaseQuestions}
-use Rattle.machine.specs.Sound.{sound-few}
+use native.Mathlib.Omega.{arith}
+use mathlib.Core.Path.{sym, _∙_}
+use Rattle.arith.specs.FirstNo.{firstNo}
+use borrow.Author.Tests.{not-true, not-false, lt-ltb, le-ltb}
 use borrow.Author.Needs.{needs}
 use Rattle.machine.proofs.questions.release_admission.Statement.{statement}
 use Rattle.machine.proofs.questions.release_admission.Tie as tie
@@ -13,67 +12,61 @@ use Rattle.admission.proofs.is_inside.Reads as is-inside-reads
 use Rattle.admission.proofs.on_one_device.Reads as on-one-device-reads
 use Rattle.admission.proofs.range_device.Reads as range-device-reads
 use Rattle.machine.proofs.devices.holds_lock.Reads as holds-lock-reads
-use Rattle.machine.proofs.soundness.is_sound.Reads as is-sound-reads
 
 -- src/questions.rt:119:9
-is-sound-requires : tie.Need-is-sound-requires
-is-sound-requires c κs = search needs
-
--- src/questions.rt:120:9
 returns : tie.Need-returns
 unfolding firstNo releaseQuestions
-returns c = simp (sym (c .before .is-sound .ensures) ∙ not-true _ (c .if1 .taken))
+returns c = simp (not-true (c .before .args .sound) (c .if1 .taken))
 
--- src/questions.rt:123:9
+-- src/questions.rt:122:9
 returns-2 : tie.Need-returns-2
 unfolding firstNo releaseQuestions
-returns-2 c = simp (sym (c .before .before .before .is-sound .ensures) ∙ not-false _ (c .before .before .if1 .left), le-ltb _ _ (c .if2 .taken))
+returns-2 c = simp (not-false (c .before .before .before .args .sound) (c .before .before .if1 .left), le-ltb _ _ (c .if2 .taken))
+
+-- src/questions.rt:124:9
+is-inside-requires : tie.Need-is-inside-requires
+is-inside-requires c κs = let few = c .before .before .before .pre (not-false (c .before .before .before .args .sound) (c .before .before .if1 .left)) in (few .1, omega (arith, few .0, c .if2 .left))
 
 -- src/questions.rt:125:9
-is-inside-requires : tie.Need-is-inside-requires
-is-inside-requires c κs = let few = sound-few _ _ _ (sym (c .before .before .before .is-sound .ensures) ∙ not-false _ (c .before .before .if1 .left)) in (few .1, omega (arith, few .0, c .if2 .left))
-
--- src/questions.rt:126:9
 returns-3 : tie.Need-returns-3
 unfolding firstNo releaseQuestions
-returns-3 c = simp (sym (c .before .before .before .before .before .is-sound .ensures) ∙ not-false _ (c .before .before .before .before .if1 .left), lt-ltb _ _ (c .before .before .if2 .left), sym (c .before .is-inside .ensures) ∙ not-true _ (c .if3 .taken))
+returns-3 c = simp (not-false (c .before .before .before .before .before .args .sound) (c .before .before .before .before .if1 .left), lt-ltb _ _ (c .before .before .if2 .left), sym (c .before .is-inside .ensures) ∙ not-true _ (c .if3 .taken))
+
+-- src/questions.rt:127:9
+on-one-device-requires : tie.Need-on-one-device-requires
+on-one-device-requires c κs = let few = c .before .before .before .before .before .pre (not-false (c .before .before .before .before .before .args .sound) (c .before .before .before .before .if1 .left)) in (few .1, omega (arith, few .0, c .before .before .if2 .left), sym (c .before .is-inside .ensures) ∙ not-false _ (c .if3 .left))
 
 -- src/questions.rt:128:9
-on-one-device-requires : tie.Need-on-one-device-requires
-on-one-device-requires c κs = let few = sound-few _ _ _ (sym (c .before .before .before .before .before .is-sound .ensures) ∙ not-false _ (c .before .before .before .before .if1 .left)) in (few .1, omega (arith, few .0, c .before .before .if2 .left), sym (c .before .is-inside .ensures) ∙ not-false _ (c .if3 .left))
-
--- src/questions.rt:129:9
 returns-4 : tie.Need-returns-4
 unfolding firstNo releaseQuestions
-returns-4 c = simp (sym (c .before .before .before .before .before .before .before .is-sound .ensures) ∙ not-false _ (c .before .before .before .before .before .before .if1 .left), lt-ltb _ _ (c .before .before .before .before .if2 .left), sym (c .before .before .before .is-inside .ensures) ∙ not-false _ (c .before .before .if3 .left), sym (c .before .on-one-device .ensures) ∙ not-true _ (c .if4 .taken))
+returns-4 c = simp (not-false (c .before .before .before .before .before .before .before .args .sound) (c .before .before .before .before .before .before .if1 .left), lt-ltb _ _ (c .before .before .before .before .if2 .left), sym (c .before .before .before .is-inside .ensures) ∙ not-false _ (c .before .before .if3 .left), sym (c .before .on-one-device .ensures) ∙ not-true _ (c .if4 .taken))
 
--- src/questions.rt:131:9
+-- src/questions.rt:130:9
 range-device-requires : tie.Need-range-device-requires
-range-device-requires c κs = let few = sound-few _ _ _ (sym (c .before .before .before .before .before .before .before .is-sound .ensures) ∙ not-false _ (c .before .before .before .before .before .before .if1 .left)) in (few .1, omega (arith, few .0, c .before .before .before .before .if2 .left))
+range-device-requires c κs = let few = c .before .before .before .before .before .before .before .pre (not-false (c .before .before .before .before .before .before .before .args .sound) (c .before .before .before .before .before .before .if1 .left)) in (few .1, omega (arith, few .0, c .before .before .before .before .if2 .left))
 
--- src/questions.rt:132:29
+-- src/questions.rt:131:29
 cast-holds-lock : tie.Need-cast-holds-lock
 cast-holds-lock c = search needs
 
--- src/questions.rt:132:9
+-- src/questions.rt:131:9
 holds-lock-requires : tie.Need-holds-lock-requires
 holds-lock-requires c κs = search needs
 
--- src/questions.rt:133:9
+-- src/questions.rt:132:9
 returns-5 : tie.Need-returns-5
 unfolding firstNo releaseQuestions
-returns-5 c = simp (sym (c .before .before .before .before .before .before .before .before .before .before .is-sound .ensures) ∙ not-false _ (c .before .before .before .before .before .before .before .before .before .if1 .left), lt-ltb _ _ (c .before .before .before .before .before .before .before .if2 .left), sym (c .before .before .before .before .before .before .is-inside .ensures) ∙ not-false _ (c .before .before .before .before .before .if3 .left), sym (c .before .before .before .before .on-one-device .ensures) ∙ not-false _ (c .before .before .before .if4 .left), ← (c .before .before .range-device .ensures), sym (c .before .holds-lock .ensures) ∙ not-true _ (c .if5 .taken))
+returns-5 c = simp (not-false (c .before .before .before .before .before .before .before .before .before .before .args .sound) (c .before .before .before .before .before .before .before .before .before .if1 .left), lt-ltb _ _ (c .before .before .before .before .before .before .before .if2 .left), sym (c .before .before .before .before .before .before .is-inside .ensures) ∙ not-false _ (c .before .before .before .before .before .if3 .left), sym (c .before .before .before .before .on-one-device .ensures) ∙ not-false _ (c .before .before .before .if4 .left), ← (c .before .before .range-device .ensures), sym (c .before .holds-lock .ensures) ∙ not-true _ (c .if5 .taken))
 
--- src/questions.rt:109:1
+-- src/questions.rt:107:1
 returns-6 : tie.Need-returns-6
 unfolding firstNo releaseQuestions
-returns-6 c = simp (sym (c .before .before .before .before .before .before .before .before .before .before .is-sound .ensures) ∙ not-false _ (c .before .before .before .before .before .before .before .before .before .if1 .left), lt-ltb _ _ (c .before .before .before .before .before .before .before .if2 .left), sym (c .before .before .before .before .before .before .is-inside .ensures) ∙ not-false _ (c .before .before .before .before .before .if3 .left), sym (c .before .before .before .before .on-one-device .ensures) ∙ not-false _ (c .before .before .before .if4 .left), ← (c .before .before .range-device .ensures), sym (c .before .holds-lock .ensures) ∙ not-false _ (c .if5 .left))
+returns-6 c = simp (not-false (c .before .before .before .before .before .before .before .before .before .before .args .sound) (c .before .before .before .before .before .before .before .before .before .if1 .left), lt-ltb _ _ (c .before .before .before .before .before .before .before .if2 .left), sym (c .before .before .before .before .before .before .is-inside .ensures) ∙ not-false _ (c .before .before .before .before .before .if3 .left), sym (c .before .before .before .before .on-one-device .ensures) ∙ not-false _ (c .before .before .before .if4 .left), ← (c .before .before .range-device .ensures), sym (c .before .holds-lock .ensures) ∙ not-false _ (c .if5 .left))
 
 pub release-admission-spec : {M : Type 1} → statement M
 release-admission-spec =
     tie.close
     (tie.spec
-    is-sound-requires
     returns
     returns-2
     is-inside-requires

@@ -1,0 +1,39 @@
+use borrow.Author.Tests.{le-ltb, lt-ltb, lt-leb, le-leb}
+use borrow.Author.Needs.{needs}
+use Rattle.admission.proofs.last_byte.Statement.{statement}
+use Rattle.admission.proofs.last_byte.Tie as tie
+use Rattle.admission.proofs.last_byte.Reads as reads
+use Rattle.admission.proofs.last_byte.Lts as lts
+use Rattle.segment.proofs.locate.Reads as locate-reads
+
+-- src/lib.rt:95:9
+returns : tie.Need-returns
+returns c = simp (lt-leb _ _ (c .if1 .taken))
+
+-- src/lib.rt:98:9
+returns-2 : tie.Need-returns-2
+returns-2 c = simp (le-leb _ _ (c .before .before .before .if1 .left), lt-leb _ _ (c .if2 .taken))
+
+-- src/lib.rt:100:17
+cast-last : tie.Need-cast-last
+cast-last c = search needs
+
+-- src/lib.rt:100:16
+add-last : tie.Need-add-last
+add-last c = search needs
+
+-- src/lib.rt:100:16
+sub-last : tie.Need-sub-last
+sub-last c = search needs
+
+-- src/lib.rt:101:5
+locate-requires : tie.Need-locate-requires
+locate-requires c κs = search needs
+
+-- src/lib.rt:83:1
+returns-3 : tie.Need-returns-3
+returns-3 c = rw (le-leb 1 (c .before .before .before .before .before .before .args .n) (c .before .before .before .before .before .if1 .left), le-leb (c .before .before .before .before .before .before .args .start .0) (c .before .before .before .before .before .before .args .address .0) (c .before .before .if2 .left)) (c .locate .ensures)
+
+pub last-byte-spec : {M : Type 1} → statement M
+last-byte-spec =
+    tie.close (tie.spec returns returns-2 cast-last add-last sub-last locate-requires returns-3)
