@@ -185,7 +185,8 @@ fn fits_window(record: AreaRecord, task: Task) -> bool
     if !uses_window(kind) {
         return true;
     }
-    task.length <= record.window.length
+    let longest = record.window.length;
+    task.length <= longest
 }
 
 fn lock_task(address: LogicalAddress, n: u32) -> Task

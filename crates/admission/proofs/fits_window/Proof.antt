@@ -16,7 +16,7 @@ returns c = rw (← (c .before .uses-window .ensures), not-true (c .before .uses
 
 -- src/lib.rt:181:1
 returns-2 : tie.Need-returns-2
-returns-2 c = rw (← (c .before .before .before .uses-window .ensures), not-false (c .before .before .before .uses-window .result) (c .before .before .if1 .left))
+returns-2 c = rw (← (c .before .before .uses-window .ensures), not-false (c .before .before .uses-window .result) (c .before .if1 .left))
 
 pub fits-window-spec : {M : Type 1} → statement M
 fits-window-spec = tie.close (tie.spec uses-window-requires returns returns-2)
