@@ -1,7 +1,7 @@
 -- Questions 12 to 15 by the cases that the code tests.
 use Prim.Native.Nat.{ℕ}
-use mathlib.Core.Bool.{true, false, true≢false, false≢true}
-use mathlib.Core.Path.{_≡_, refl, sym, ap, _∙_}
+use mathlib.Core.Bool.{true, false, false≢true}
+use mathlib.Core.Path.{_≡_, refl, ap, _∙_}
 use native.Mathlib.Omega.{arith}
 use Rattle.arith.specs.FirstNo.{firstNo}
 use Rattle.memory.specs.Numbers.{admissionNumber, refusalNumber, refusal-some}

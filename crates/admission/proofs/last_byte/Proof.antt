@@ -1,4 +1,4 @@
-use borrow.Author.Tests.{le-ltb, lt-ltb, lt-leb, le-leb}
+use borrow.Author.Tests.{lt-leb, le-leb}
 use borrow.Author.Needs.{needs}
 use Rattle.admission.proofs.last_byte.Statement.{statement}
 use Rattle.admission.proofs.last_byte.Tie as tie

@@ -1,5 +1,4 @@
 use Rattle.machine.specs.DeviceLaws.{none-request}
-use Rattle.rules.specs.Layout.{layoutOf}
 use mathlib.Core.Path.{sym, _∙_}
 use borrow.Author.Tests.{not-true}
 use borrow.Author.Needs.{needs}

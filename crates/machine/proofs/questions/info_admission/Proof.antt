@@ -1,6 +1,4 @@
 use Rattle.rules.specs.Admission.{infoQuestions}
-use native.Mathlib.Omega.{arith}
-use mathlib.Core.Path.{sym, _∙_}
 use Rattle.arith.specs.FirstNo.{firstNo}
 use borrow.Author.Tests.{not-true, not-false, lt-ltb, le-ltb}
 use Rattle.machine.proofs.questions.info_admission.Statement.{statement}
