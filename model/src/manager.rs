@@ -79,6 +79,16 @@ pub enum Wait {
     Locked,
 }
 
+impl Need {
+    /// "Retries per piece": a lock request has none.
+    fn retries(&self) -> u8 {
+        match self {
+            Need::Piece(_, piece) => piece.retries,
+            Need::Lock(_) => 0,
+        }
+    }
+}
+
 impl Waits {
     /// "The own, above, below and locked counts stick at 4,294,967,295."
     pub fn add(&mut self, wait: Wait) {
@@ -203,10 +213,7 @@ impl Manager {
 
     /// Retries are per piece: fresh at each new one.
     fn renew_retries(&mut self, area: usize) {
-        self.areas[area].retries_left = match self.need(area) {
-            Some(Need::Piece(_, piece)) => piece.retries,
-            Some(Need::Lock(_)) | None => 0,
-        };
+        self.areas[area].retries_left = self.need(area).map_or(0, |need| need.retries());
     }
 
     /// What the area's job needs next: its piece at the processed length or the lock of its device.

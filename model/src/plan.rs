@@ -9,6 +9,8 @@ pub const DEVICE_MARK: [u8; 2] = [0x44, 0x56];
 pub const AREA_MARK: [u8; 2] = [0x41, 0x52];
 pub const SUB_AREA_MARK: [u8; 2] = [0x53, 0x42];
 
+/// Question 2: "1 to 8 areas".
+pub const MOST_AREAS: usize = 8;
 /// Question 3: "the sum of lengths at most 16,777,216".
 pub const DEVICE_SUM_LIMIT: u32 = 16_777_216;
 /// Question 4: "Windows end at or below 65,536".
@@ -144,7 +146,7 @@ pub fn whole_records(bytes: &[u8]) -> Option<Plan> {
 /// Question 2: "1 to 4 devices, 1 to 8 areas, 1 to 32 sub-areas?"
 pub fn counts_allowed(plan: &Plan) -> bool {
     (1..=4).contains(&plan.devices.len())
-        && (1..=8).contains(&plan.areas.len())
+        && (1..=MOST_AREAS).contains(&plan.areas.len())
         && (1..=32).contains(&plan.sub_areas.len())
 }
 

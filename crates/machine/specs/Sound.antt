@@ -11,6 +11,8 @@ use Rattle.arith.specs.Bounded.{every}
 use Rattle.arith.specs.Plain.{and-plain}
 use Rattle.plan.specs.Questions.{areaOf, deviceOf, lengthSum, countsFit}
 use Rattle.plan.specs.SizeLaws.{counts}
+use Rattle.plan.specs.declared.records.AreaRecord.{AreaRecord}
+use Rattle.plan.specs.declared.records.DeviceRecord.{DeviceRecord}
 use Rattle.plan.specs.declared.records.Plan.{Plan}
 use Rattle.rules.specs.Admission.{usesWindow, ifAsked}
 use Rattle.rules.specs.Machine.{Core, isPending}
@@ -27,19 +29,22 @@ use Rattle.state.specs.declared.Job.{Job}
 unfoldable pub jobRuns : Job → ℕ → ℕ → Bool
 jobRuns j polls limit = isPending j && (not (isLock (j .task .kind)) && ltb polls limit)
 
--- the request s of job j lies on device d, inside the image, and in what is left of the job and of its window
-unfoldable pub segmentFits : Plan → ℕ → ℕ → Job → Segment → Bool
-segmentFits p d a j s =
+-- the request s of job j lies on device d, inside an image of n bytes, and in what is left of the job and of its window of w bytes
+unfoldable pub segmentFits : ℕ → ℕ → ℕ → Job → Segment → Bool
+segmentFits n w d j s =
     eqb (s .device) d
-    && (leb (s .start .0 + s .length) (lengthSum (p .devices) (p .«device_count»))
+    && (leb (s .start .0 + s .length) n
     && (leb (j .processed + s .length) (j .task .length)
-    && ifAsked (usesWindow (j .task .kind)) (leb (j .processed + s .length) (areaOf (p .areas) a .window .length))))
+    && ifAsked (usesWindow (j .task .kind)) (leb (j .processed + s .length) w)))
 
--- device d may run the request of area a, whose job is j
+-- device d may run the request of area a, whose job is j and whose due segment is s
+abbrev pub requestFits : ℕ → DeviceRecord → ℕ → AreaRecord → ℕ → Job → Segment → ℕ → ℕ → Bool
+requestFits n holder areas place d j s a polls = ltb a areas && (jobRuns j polls (holder .«poll_limit») && segmentFits n (place .window .length) d j s)
+
 unfoldable pub requestSound : Plan → ℕ → ℕ → ℕ → Job → Bool
 requestSound p d a polls j =
-    ltb a (p .«area_count»)
-    && (jobRuns j polls (deviceOf (p .devices) d .«poll_limit») && segmentFits p d a j (segmentAt p a (j .task) (j .processed)))
+    requestFits (lengthSum (p .devices) (p .«device_count»)) (deviceOf (p .devices) d) (p .«area_count») (areaOf (p .areas) a) d j
+    (segmentAt p a (j .task) (j .processed)) a polls
 
 abbrev pub stateSound : Plan → ℕ → (ℕ → Job) → DeviceState → Bool
 stateSound p d jobs Free = true
@@ -73,9 +78,10 @@ module _ (p : Plan) (d a polls : ℕ) (j : Job) where
   request-idle h e = simp (lt-ltb _ _ h, e)
 
   pub request-decides : a < p .«area_count» → jobRuns j polls (deviceOf (p .devices) d .«poll_limit») ≡ true → (s : Segment) →
-      s ≡ segmentAt p a (j .task) (j .processed) → segmentFits p d a j s ≡ requestSound p d a polls j
+      s ≡ segmentAt p a (j .task) (j .processed) → (n : ℕ) → n ≡ lengthSum (p .devices) (p .«device_count») →
+      segmentFits n (areaOf (p .areas) a .window .length) d j s ≡ requestSound p d a polls j
   unfolding requestSound
-  request-decides h e s q = simp (lt-ltb _ _ h, e, q)
+  request-decides h e s q n f = simp (lt-ltb _ _ h, e, q, f)
 
 module _ (p : Plan) (areas : List Area) (devices : List Device) where
   pub other-counts : countsFit (p .«device_count») (p .«area_count») (p .«sub_area_count») ≡ false → false ≡ isSound p areas devices
@@ -96,26 +102,26 @@ sound-few p areas devices e =
     (few .1 .0 .1, few .1 .1 .1)
 
 -- the test by the cases that the code takes apart
-module _ (p : Plan) (d a : ℕ) (j : Job) (s : Segment) where
-  pub other-device : (s .device ≡ d → ⊥) → false ≡ segmentFits p d a j s
+module _ (n w d : ℕ) (j : Job) (s : Segment) where
+  pub other-device : (s .device ≡ d → ⊥) → false ≡ segmentFits n w d j s
   unfolding segmentFits
   other-device h = rw (ne-eqb (s .device) d h)
 
   module _ (here : s .device ≡ d) where
-    pub past-image : lengthSum (p .devices) (p .«device_count») < s .start .0 + s .length → false ≡ segmentFits p d a j s
+    pub past-image : n < s .start .0 + s .length → false ≡ segmentFits n w d j s
     unfolding segmentFits
     past-image h = simp (eq-eqb _ _ here, lt-leb _ _ h)
 
-    module _ (inside : s .start .0 + s .length ≤ lengthSum (p .devices) (p .«device_count»)) where
-      pub past-job : j .task .length < j .processed + s .length → false ≡ segmentFits p d a j s
+    module _ (inside : s .start .0 + s .length ≤ n) where
+      pub past-job : j .task .length < j .processed + s .length → false ≡ segmentFits n w d j s
       unfolding segmentFits
       past-job h = simp (eq-eqb _ _ here, le-leb _ _ inside, lt-leb _ _ h)
 
       module _ (left : j .processed + s .length ≤ j .task .length) where
-        pub no-window : usesWindow (j .task .kind) ≡ false → true ≡ segmentFits p d a j s
+        pub no-window : usesWindow (j .task .kind) ≡ false → true ≡ segmentFits n w d j s
         unfolding segmentFits
-        no-window w = simp (eq-eqb _ _ here, le-leb _ _ inside, le-leb _ _ left, w)
+        no-window u = simp (eq-eqb _ _ here, le-leb _ _ inside, le-leb _ _ left, u)
 
-        pub window-decides : usesWindow (j .task .kind) ≡ true → leb (j .processed + s .length) (areaOf (p .areas) a .window .length) ≡ segmentFits p d a j s
+        pub window-decides : usesWindow (j .task .kind) ≡ true → leb (j .processed + s .length) w ≡ segmentFits n w d j s
         unfolding segmentFits
-        window-decides w = simp (eq-eqb _ _ here, le-leb _ _ inside, le-leb _ _ left, w)
+        window-decides u = simp (eq-eqb _ _ here, le-leb _ _ inside, le-leb _ _ left, u)

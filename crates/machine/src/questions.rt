@@ -1,17 +1,20 @@
 // Questions 9 to 19 of the calls, in their order.
-ghost use mathlib.Core.Bool.{true};
 ghost use mathlib.Core.List.{_∷_};
 ghost use mathlib.Core.Path.{_≡_};
+ghost use mathlib.Core.Bool.{true};
 ghost use Prim.Native.Nat.{_≤_};
 ghost use Rattle.arith.specs.Cases.{pick};
 ghost use Rattle.arith.specs.FirstNo.{firstNo};
 ghost use Rattle.memory.specs.Numbers.{admissionNumber};
 ghost use Rattle.rules.specs.Admission.{infoQuestions, cancelQuestions, memoryInfoQuestions, jobQuestions, releaseQuestions, imageFits, storeReaches, roundNumber};
+ghost use Rattle.plan.specs.Questions.{countsFit};
 ghost use Rattle.segment.specs.Segments.{segmentAt};
 ghost use Rattle.machine.specs.QuestionLaws.{jobsAlone, devicesAlone};
-ghost use Rattle.machine.specs.Sound.{isSound};
+ghost use Rattle.machine.specs.Sound.{isSound, jobIn};
+ghost use Rattle.machine.specs.Dues.{Due, DueIfSound};
 use crate::devices::holds_lock;
-use crate::soundness::is_sound;
+use crate::dues::due_segments;
+use crate::dues::states_fit;
 use admission::JobAnswer;
 use admission::is_inside;
 use admission::on_one_device;
@@ -22,8 +25,11 @@ use memory::Admission;
 use memory::LogicalAddress;
 use memory::Refusal;
 use memory::Task;
+use plan::checks::counts_fit;
 use plan::questions::device_sum;
 use plan::records::Plan;
+use segment::Segment;
+use segment::no_segment;
 use state::Area;
 use state::Device;
 
@@ -149,9 +155,10 @@ fn store_reaches(plan: Plan, store: &[u8]) -> bool
     requires { ⌜ plan .«area_count» ≤ 8 ⌝ }
     ensures { λ r. ⌜ r ≡ storeReaches plan (now (store .entry)) ⌝ }
 {
+    let records = plan.areas;
     let mut a = 0;
     while a < plan.area_count {
-        let record = plan.areas[a];
+        let record = records[a];
         if (store.len() as u64) < record.window_end() {
             return false;
         }
@@ -160,17 +167,29 @@ fn store_reaches(plan: Plan, store: &[u8]) -> bool
     true
 }
 
-// 9, 18, 19: a round.
-pub fn round_admission(
+// 9, 18, 19, with the due segments of the pending jobs.
+fn round_admission(
     plan: Plan,
     areas: [Area; 8],
     devices: [Device; 4],
+    dues: [Segment; 8],
     image: &[u8],
     store: &[u8],
 ) -> Admission
+    requires { ⌜ (countsFit (plan .«device_count») (plan .«area_count») (plan .«sub_area_count») ≡ true) × Due plan dues (jobIn areas) ⌝ }
     ensures { λ r. ⌜ admissionNumber r ≡ pick (isSound plan areas devices) (roundNumber plan (now (image .entry)) (now (store .entry))) 9 ⌝ }
 {
-    if !is_sound(plan, areas, devices) {
+    let holders = plan.devices;
+    let records = plan.areas;
+    if !states_fit(
+        holders,
+        plan.device_count,
+        records,
+        plan.area_count,
+        areas,
+        devices,
+        dues,
+    ) {
         return Admission::Refused(Refusal::Unsound);
     }
     if !image_fits(plan, image) {
@@ -180,4 +199,34 @@ pub fn round_admission(
         return Admission::Refused(Refusal::StoreLength);
     }
     Admission::Accepted
+}
+
+// The answer to a round's questions, with the due segments of the pending jobs, which the round goes on with.
+pub struct Opened {
+    pub answer: Admission,
+    pub dues: [Segment; 8],
+}
+
+pub fn open_round(
+    plan: Plan,
+    areas: [Area; 8],
+    devices: [Device; 4],
+    image: &[u8],
+    store: &[u8],
+) -> Opened
+    ensures { λ r. ⌜ admissionNumber (r .answer) ≡ pick (isSound plan areas devices) (roundNumber plan (now (image .entry)) (now (store .entry))) 9 ⌝ }
+    ensures { λ r. ⌜ DueIfSound plan areas devices (r .dues) ⌝ }
+{
+    if !counts_fit(plan.device_count, plan.area_count, plan.sub_area_count) {
+        let dues = [no_segment(); 8];
+        return Opened {
+            answer: Admission::Refused(Refusal::Unsound),
+            dues,
+        };
+    }
+    let sub_areas = plan.sub_areas;
+    let records = plan.areas;
+    let dues = due_segments(sub_areas, plan.sub_area_count, records, areas);
+    let answer = round_admission(plan, areas, devices, dues, image, store);
+    Opened { answer, dues }
 }

@@ -16,7 +16,7 @@ use state::Device;
 use state::DeviceState;
 use state::Job;
 
-fn job_runs(job: Job, polls: u16, limit: u16) -> bool
+pub fn job_runs(job: Job, polls: u16, limit: u16) -> bool
     ensures { λ r. ⌜ r ≡ jobRuns job polls limit ⌝ }
 {
     if !is_pending(job) {
@@ -30,15 +30,14 @@ fn job_runs(job: Job, polls: u16, limit: u16) -> bool
     polls < limit
 }
 
-fn segment_fits(plan: Plan, device: usize, area: usize, job: Job, segment: Segment) -> bool
-    requires { ⌜ (plan .«device_count» ≤ 4) × (area < 8) ⌝ }
-    ensures { λ r. ⌜ r ≡ segmentFits plan device area job segment ⌝ }
+// Does the request lie on the device, inside the image of `sum` bytes, and in what is left of the job and of its window?
+pub fn segment_fits(sum: u64, window: u32, device: usize, job: Job, segment: Segment) -> bool
+    requires { ⌜ sum ≤ 17179869180 ⌝ }
+    ensures { λ r. ⌜ r ≡ segmentFits sum window device job segment ⌝ }
 {
     if segment.device as usize != device {
         return false;
     }
-    let devices = plan.devices;
-    let sum = device_sum(devices, plan.device_count);
     if sum < segment.start.0 {
         return false;
     }
@@ -54,8 +53,7 @@ fn segment_fits(plan: Plan, device: usize, area: usize, job: Job, segment: Segme
     if !uses_window(kind) {
         return true;
     }
-    let record = plan.areas[area];
-    upto <= record.window.length as u64
+    upto <= window as u64
 }
 
 fn request_sound(plan: Plan, device: usize, area: usize, polls: u16, areas: [Area; 8]) -> bool
@@ -73,7 +71,9 @@ fn request_sound(plan: Plan, device: usize, area: usize, polls: u16, areas: [Are
     }
     let task = job.task;
     let segment = segment_at(plan, area, task, job.processed);
-    segment_fits(plan, device, area, job, segment)
+    let sum = device_sum(plan.devices, plan.device_count);
+    let place = plan.areas[area];
+    segment_fits(sum, place.window.length, device, job, segment)
 }
 
 fn state_sound(plan: Plan, device: usize, areas: [Area; 8], state: DeviceState) -> bool

@@ -20,8 +20,8 @@ use machine::questions::cancel_admission;
 use machine::questions::info_admission;
 use machine::questions::job_admission;
 use machine::questions::memory_admission;
+use machine::questions::open_round;
 use machine::questions::release_admission;
-use machine::questions::round_admission;
 use machine::soundness::is_sound;
 use memory::Admission;
 use memory::DeviceAnswer;
@@ -421,14 +421,16 @@ impl Manager {
         let plan = self.plan;
         let areas = self.areas;
         let devices = self.devices;
-        let answer = round_admission(plan, areas, devices, image, store);
+        let opened = open_round(plan, areas, devices, image, store);
+        let answer = opened.answer;
         match answer {
             Admission::Refused(_) => Answered {
                 answer,
                 manager: self,
             },
             Admission::Accepted => {
-                let next = run_round(plan, answers, areas, devices, image, store);
+                let dues = opened.dues;
+                let next = run_round(plan, answers, areas, devices, dues, image, store);
                 let areas = next.areas;
                 let devices = next.devices;
                 let manager = Manager {

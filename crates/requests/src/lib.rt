@@ -1,30 +1,31 @@
 // A running request takes its device's answer: what it does to image and store, to the job and to the device.
 pub mod effects;
 
-ghost use mathlib.Core.Bool.{true};
 ghost use mathlib.Core.Path.{_≡_};
-ghost use Prim.Native.Nat.{_+_, _≤_, _<_};
+ghost use Prim.Native.Nat.{_+_, _≤_};
 ghost use lib.Dec.{leb};
-ghost use Rattle.machine.specs.Sound.{requestSound};
-ghost use Rattle.rules.specs.Admission.{imageFits, storeReaches};
-ghost use Rattle.rules.specs.Layout.{layoutOf};
-ghost use Rattle.rules.specs.Machine.{due, jobFinished};
-ghost use Rattle.requests.specs.Effects.{verdict, memoryOf};
-ghost use Rattle.requests.specs.Requests.{takenState, takenJob, requestState, requestJob, requestMemory};
+ghost use lib.ListN.{length};
+ghost use Rattle.rules.specs.Memory.{verdictOf, memoryAfter};
+ghost use Rattle.requests.specs.Effects.{verdict, lentEnd, memoryOf};
+ghost use Rattle.requests.specs.Requests.{takenState, nextOf, finishedWith, takenWith, dueWith};
 use crate::effects::Outcome;
 use crate::effects::take_effect;
 use jobs::job_differs;
 use jobs::job_failed;
 use jobs::job_finished;
 use memory::DeviceAnswer;
-use plan::records::Plan;
-use segment::segment_at;
+use memory::LogicalAddress;
+use plan::records::SubAreaRecord;
+use segment::Segment;
+use segment::no_segment;
+use segment::segment_from;
 use state::DeviceState;
 use state::Job;
 
-// A job and its device when the job's request has taken an answer.
+// A job, its due segment and its device when the job's request has taken an answer.
 pub struct Taken {
     pub job: Job,
+    pub due: Segment,
     pub state: DeviceState,
 }
 
@@ -35,23 +36,44 @@ fn is_dropped(polls: u16, limit: u16) -> bool
     limit as u32 <= (polls as u32) + 1
 }
 
-fn finished_job(plan: Plan, area: usize, job: Job, length: u64) -> Job
-    requires { ⌜ (plan .«sub_area_count» ≤ 32) × (area < 8) × (length ≡ due (layoutOf plan) area job .length) × (job .processed + length ≤ job .task .length) ⌝ }
-    ensures { λ r. ⌜ r ≡ jobFinished (layoutOf plan) area job ⌝ }
+// The segment behind the due one, which a request that is done makes due; none behind the last.
+pub fn next_segment(
+    answer: DeviceAnswer,
+    sub_areas: [SubAreaRecord; 32],
+    count: usize,
+    start: LogicalAddress,
+    area: usize,
+    job: Job,
+    due: Segment,
+) -> Segment
+    requires { ⌜ (count ≤ 32) × (job .processed + due .length ≤ job .task .length) ⌝ }
+    ensures { λ r. ⌜ r ≡ nextOf answer «sub_areas» count (start .0) area job due ⌝ }
 {
-    let upto = (job.processed as u64 + length) as u32;
-    // behind the last segment there is none to look up
-    if job.task.length <= upto {
-        return job_finished(job, upto, 0);
+    match answer {
+        DeviceAnswer::Pending => no_segment(),
+        DeviceAnswer::Failed(_) => no_segment(),
+        DeviceAnswer::Done => {
+            let task = job.task;
+            let upto = (job.processed as u64 + due.length) as u32;
+            if task.length <= upto {
+                return no_segment();
+            }
+            segment_from(sub_areas, count, start, area, task, upto)
+        }
     }
-    let task = job.task;
-    let next = segment_at(plan, area, task, upto);
-    job_finished(job, upto, next.retries)
 }
 
-fn taken_job(plan: Plan, area: usize, job: Job, length: u64, outcome: Outcome, dropped: bool) -> Job
-    requires { ⌜ (plan .«sub_area_count» ≤ 32) × (area < 8) × (length ≡ due (layoutOf plan) area job .length) × (job .processed + length ≤ job .task .length) ⌝ }
-    ensures { λ r. ⌜ r ≡ takenJob (layoutOf plan) area (verdict outcome) dropped job ⌝ }
+fn finished_job(job: Job, length: u64, retries: u8) -> Job
+    requires { ⌜ job .processed + length ≤ job .task .length ⌝ }
+    ensures { λ r. ⌜ r ≡ finishedWith length retries job ⌝ }
+{
+    let upto = (job.processed as u64 + length) as u32;
+    job_finished(job, upto, retries)
+}
+
+fn taken_job(job: Job, length: u64, retries: u8, outcome: Outcome, dropped: bool) -> Job
+    requires { ⌜ job .processed + length ≤ job .task .length ⌝ }
+    ensures { λ r. ⌜ r ≡ takenWith length retries (verdict outcome) dropped job ⌝ }
 {
     match outcome {
         Outcome::GoesOn => {
@@ -60,9 +82,20 @@ fn taken_job(plan: Plan, area: usize, job: Job, length: u64, outcome: Outcome, d
             }
             job
         }
-        Outcome::Finished => finished_job(plan, area, job, length),
+        Outcome::Finished => finished_job(job, length, retries),
         Outcome::Differs => job_differs(job),
         Outcome::Failed => job_failed(job),
+    }
+}
+
+fn taken_due(due: Segment, next: Segment, outcome: Outcome) -> Segment
+    ensures { λ r. ⌜ r ≡ dueWith due next (verdict outcome) ⌝ }
+{
+    match outcome {
+        Outcome::GoesOn => due,
+        Outcome::Finished => next,
+        Outcome::Differs => due,
+        Outcome::Failed => due,
     }
 }
 
@@ -85,35 +118,36 @@ fn taken_state(area: u8, polls: u16, limit: u16, outcome: Outcome) -> DeviceStat
     }
 }
 
-// The request that a device runs for an area with this job takes its answer.
+// The request that a device with this poll limit runs for an area takes its answer: it is the due segment of the area's job,
+// `next` is the one behind, and the area's window starts at `window` in the store.
 pub fn take_request(
-    plan: Plan,
-    device: usize,
+    window: u32,
+    limit: u16,
     area: u8,
     polls: u16,
     job: Job,
+    due: Segment,
+    next: Segment,
     answer: DeviceAnswer,
     image: &mut [u8],
     store: &mut [u8],
 ) -> Taken
-    requires { ⌜ (plan .«sub_area_count» ≤ 32) × (plan .«area_count» ≤ 8) × (device < 4) × (requestSound plan device area polls job ≡ true) × (imageFits plan (now image) ≡ true) × (storeReaches plan (now store) ≡ true) ⌝ }
-    ensures { λ r. ⌜ r .job ≡ requestJob plan device area polls job answer (memoryOf (now (image .entry)) (now (store .entry))) ⌝ }
-    ensures { λ r. ⌜ r .state ≡ requestState plan device area polls job answer (memoryOf (now (image .entry)) (now (store .entry))) ⌝ }
-    ensures { λ _. ⌜ now (image .exit) ≡ requestMemory plan area job answer (memoryOf (now (image .entry)) (now (store .entry))) .image ⌝ }
-    ensures { λ _. ⌜ now (store .exit) ≡ requestMemory plan area job answer (memoryOf (now (image .entry)) (now (store .entry))) .store ⌝ }
+    requires { ⌜ (due .start .0 + due .length ≤ length (now image)) × (lentEnd (job .task .kind) (window + job .processed) (due .length) ≤ length (now store)) × (job .processed + due .length ≤ job .task .length) ⌝ }
+    ensures { λ r. ⌜ r .job ≡ takenWith (due .length) (next .retries) (verdictOf answer (job .task .kind) (due .start .0) (window + job .processed) (due .length) (memoryOf (now (image .entry)) (now (store .entry)))) (leb limit (polls + 1)) job ⌝ }
+    ensures { λ r. ⌜ r .due ≡ dueWith due next (verdictOf answer (job .task .kind) (due .start .0) (window + job .processed) (due .length) (memoryOf (now (image .entry)) (now (store .entry)))) ⌝ }
+    ensures { λ r. ⌜ r .state ≡ takenState area polls (verdictOf answer (job .task .kind) (due .start .0) (window + job .processed) (due .length) (memoryOf (now (image .entry)) (now (store .entry)))) (leb limit (polls + 1)) ⌝ }
+    ensures { λ _. ⌜ now (image .exit) ≡ memoryAfter answer (job .task .kind) (due .start .0) (window + job .processed) (due .length) (memoryOf (now (image .entry)) (now (store .entry))) .image ⌝ }
+    ensures { λ _. ⌜ now (store .exit) ≡ memoryAfter answer (job .task .kind) (due .start .0) (window + job .processed) (due .length) (memoryOf (now (image .entry)) (now (store .entry))) .store ⌝ }
 {
     let task = job.task;
     let kind = task.kind;
-    let number = area as usize;
-    let segment = segment_at(plan, number, task, job.processed);
-    let at = segment.start.0 as usize;
-    let record = plan.areas[number];
-    let window = record.window.start as usize + job.processed as usize;
-    let n = segment.length as usize;
-    let outcome = take_effect(answer, kind, at, window, n, image, store);
-    let holder = plan.devices[device];
-    let dropped = is_dropped(polls, holder.poll_limit);
-    let job = taken_job(plan, number, job, segment.length, outcome, dropped);
-    let state = taken_state(area, polls, holder.poll_limit, outcome);
-    Taken { job, state }
+    let at = due.start.0 as usize;
+    let place = window as usize + job.processed as usize;
+    let n = due.length as usize;
+    let outcome = take_effect(answer, kind, at, place, n, image, store);
+    let dropped = is_dropped(polls, limit);
+    let job = taken_job(job, due.length, next.retries, outcome, dropped);
+    let due = taken_due(due, next, outcome);
+    let state = taken_state(area, polls, limit, outcome);
+    Taken { job, due, state }
 }

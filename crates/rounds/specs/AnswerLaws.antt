@@ -26,12 +26,18 @@ use Rattle.state.specs.declared.DeviceState.{DeviceState}
 use Rattle.state.specs.declared.DeviceState.the-variants.{Free, Runs, LockedFor}
 use Rattle.state.specs.declared.Job.{Job}
 use Rattle.rounds.specs.Close.{lentTo}
-use Rattle.requests.specs.Requests.{requestVerdict, requestJob, requestState, requestMemory, taken-core}
+use Rattle.requests.specs.Requests.{requestVerdict, requestJob, requestState, requestMemory, same-map, taken-core}
 
 -- both arrays with one entry changed
 pub core-set : (areas : List Area) (devices : List Device) (a : ℕ) (x : Area) (d : ℕ) (y : Device) → a < length areas → d < length devices →
     coreIn (set areas a x) (set devices d y) ≡ withBoth a (x .job) d (y .state) (coreIn areas devices)
 core-set areas devices a x d y h k = λ i. record { jobs = job-set areas a x h i; devices = state-set devices d y k i }
+
+-- both arrays with an entry set to what it is
+pub core-kept : (areas : List Area) (devices : List Device) (a : ℕ) (x : Area) (d : ℕ) (y : Device) → a < length areas → d < length devices →
+    x .job ≡ jobIn areas a → y .state ≡ stateIn devices d → coreIn (set areas a x) (set devices d y) ≡ coreIn areas devices
+core-kept areas devices a x d y h k e f =
+    core-set areas devices a x d y h k ∙ rw (e, f) (λ i. record { jobs = sym (same-map (jobIn areas) a) i; devices = sym (same-map (stateIn devices) d) i })
 
 module _ (p : Plan) (d : ℕ) (x : DeviceAnswer) (areas : List Area) (devices : List Device) (m : Memory) where
   -- "The answer for a device with nothing running is ignored."

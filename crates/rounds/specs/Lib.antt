@@ -1,6 +1,7 @@
 pub mod Close
 pub mod Halves
 pub mod AnswerLaws
+pub mod Turns
 pub mod Picks
 pub mod PickLaws
 pub mod CloseLaws

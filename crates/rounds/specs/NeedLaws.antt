@@ -8,6 +8,7 @@ use lib.ListN.{length, getD}
 use Rattle.arith.specs.Cases.{pick, by-bool}
 use Rattle.arith.specs.Parts.{upd-case}
 use Rattle.arith.specs.Tables.{table-at, table-same, table-whole}
+use Rattle.machine.specs.Dues.{Due}
 use Rattle.machine.specs.Sound.{jobIn, stateIn, coreIn}
 use Rattle.memory.specs.declared.DeviceAnswer.{DeviceAnswer}
 use Rattle.plan.specs.declared.records.Plan.{Plan}
@@ -16,6 +17,8 @@ use Rattle.rules.specs.Machine.{Core, Choice, nobody, area, Wait, isPending, ne
 use Rattle.rules.specs.Memory.{Memory}
 use Rattle.rules.specs.Round.{takeAll, roundHalves}
 use Rattle.rules.specs.StepLaws.{start-case}
+use Rattle.segment.specs.Segments.{noSegment}
+use Rattle.segment.specs.declared.Segment.{Segment}
 use Rattle.state.specs.Fresh.{freshArea, freeDevice}
 use Rattle.state.specs.declared.Area.{Area}
 use Rattle.state.specs.declared.Device.{Device}
@@ -23,15 +26,15 @@ use Rattle.state.specs.declared.DeviceState.{DeviceState}
 use Rattle.state.specs.declared.DeviceState.the-variants.{Free, Runs, LockedFor}
 use Rattle.state.specs.declared.Waits.{Waits}
 use Rattle.rounds.specs.Close.{closed, waitsIn, areaAfter, areasAfter, deviceAfter, devicesAfter, lentTo, halvesOf}
-use Rattle.rounds.specs.Picks.{neededBy, needsOf, needsLayout}
+use Rattle.rounds.specs.Picks.{needsOf, needsLayout}
 
 -- the list has, for each pending job, the device that it needs
 abbrev pub Needed : Plan → List ℕ → Core → Type 0
 Needed p needs c = (a : ℕ) → a < 8 → isPending (c .jobs a) ≡ true → getD needs a 0 ≡ need (layoutOf p) a (c .jobs a)
 
-pub needs-found : (p : Plan) (areas : List Area) (devices : List Device) → Needed p (needsOf p areas) (coreIn areas devices)
-unfolding needsOf
-needs-found p areas devices a h e = table-at 8 (λ i. neededBy p i (jobIn areas i)) 0 8 a 0 h (omega arith) ∙ rw e
+pub needs-found : (p : Plan) (dues : List Segment) (c : Core) → Due p dues (c .jobs) → Needed p (needsOf dues) c
+unfolding needsOf layoutOf
+needs-found p dues c found a h e = table-at 8 (λ i. getD dues i noSegment .device) 0 8 a 0 h (omega arith) ∙ ap (λ s. s .device) (found a h e)
 
 module _ (p : Plan) (few : p .«area_count» ≤ 8) (needs : List ℕ) where
   abbrev found : Layout
@@ -107,11 +110,11 @@ devices-whole l c e f = table-whole 4 (deviceAfter c) freeDevice l e (λ d _. λ
 -- a whole round: what the code's parts made, in their order, is what the rules make
 module _ (p : Plan) (areas : List Area) (devices : List Device) (answers : List DeviceAnswer) (m : Memory) (few : p .«area_count» ≤ 8)
     (taken : List Area) (free : List Device) (first : coreIn taken free ≡ takeAll p answers (p .«device_count») (lentTo areas devices m) .core)
-    (needs : List ℕ) (found-is : needs ≡ needsOf p taken)
+    (dues : List Segment) (due : Due p dues (jobIn taken)) (needs : List ℕ) (found-is : needs ≡ needsOf dues)
     (started : List Area) (left : List Device)
     (second : coreIn started left ≡ secondHalf (needsLayout (p .areas) (p .«area_count») needs) (p .«device_count») (coreIn taken free)) where
   found-needs : Needed p needs (coreIn taken free)
-  found-needs = subst (λ l. Needed p l (coreIn taken free)) (sym found-is) (needs-found p taken free)
+  found-needs = subst (λ l. Needed p l (coreIn taken free)) (sym found-is) (needs-found p dues (coreIn taken free) due)
 
   -- the core after both halves
   pub whole-core : coreIn started left ≡ halvesOf p areas devices answers m .core

@@ -5,25 +5,29 @@ use mathlib.Core.List.{List}
 use mathlib.Core.Path.{_≡_, refl, sym, ap, subst, _∙_}
 use native.Mathlib.Numerals.{add-one}
 use native.Mathlib.Omega.{arith}
+use borrow.Author.Tests.{lt-ltb}
 use lib.Dec.{ltb, eqb}
 use lib.ListN.{length, getD, set}
 use Rattle.arith.specs.Bounded.{below-suc}
 use Rattle.arith.specs.Cases.{pick, by-bool}
-use Rattle.machine.specs.Arrays.{state-set}
+use Rattle.arith.specs.Parts.{upd}
 use Rattle.machine.specs.Sound.{jobIn, stateIn, coreIn}
 use Rattle.plan.specs.Questions.{areaOf}
 use Rattle.plan.specs.declared.records.AreaRecord.{AreaRecord}
 use Rattle.rules.specs.Layout.{Layout, ranksAbove}
-use Rattle.rules.specs.Machine.{Core, Choice, nobody, area, withDevice, ended, isPending, ready, better, best, startJob, startChoice, startOn, start, secondHalf}
+use Rattle.rules.specs.Machine.{Core, Choice, nobody, area, isPending, ready, better, best, startJob, startChoice, startOn, start, secondHalf}
 use Rattle.segment.specs.Segments.{isLock}
+use Rattle.state.specs.Fresh.{freshArea, freeDevice}
 use Rattle.state.specs.declared.Area.{Area}
 use Rattle.state.specs.declared.Device.{Device}
 use Rattle.state.specs.declared.DeviceState.{DeviceState}
 use Rattle.state.specs.declared.DeviceState.the-variants.{Free, Runs, LockedFor}
-use Rattle.rounds.specs.AnswerLaws.{core-set}
-use Rattle.rounds.specs.Picks.{needsLayout, rankAbove, betterOf, bestTo, readyIn, isFree}
+use Rattle.requests.specs.Requests.{same-map}
+use Rattle.rounds.specs.AnswerLaws.{core-set, core-kept}
+use Rattle.rounds.specs.Picks.{needsLayout, rankAbove, betterOf, bestTo, readyIn, isFree, chosenIn, startOf, startWith}
 use Rattle.rounds.specs.declared.picks.Best.{Best}
 use Rattle.rounds.specs.declared.picks.Best.the-variants as Bests
+use Rattle.rounds.specs.declared.picks.Start.{Start}
 
 -- a choice with the area's priority beside it
 abbrev withPriority : List AreaRecord → Choice → Best
@@ -115,18 +119,45 @@ module _ (records : List AreaRecord) (ready : ℕ → Bool) where
   pub best-below : (n : ℕ) (b : Best) → b ≡ bestTo records ready n → (a q : ℕ) → b ≡ Bests.Area a q → a < n
   best-below n b is a q e = subst (Below n) (sym is ∙ e) (best-within n)
 
--- a job started on a free device
-module _ (d a : ℕ) (areas : List Area) (devices : List Device) (there : d < length devices) where
-  pub lock-start : (x : Area) (y : Device) → a < length areas → isLock (jobIn areas a .task .kind) ≡ true → x .job ≡ ended 0 (jobIn areas a) →
-      y .state ≡ LockedFor a →
-      coreIn (set areas a x) (set devices d y) ≡ startJob d a (isLock (jobIn areas a .task .kind)) (coreIn areas devices)
-  lock-start x y h k e f = core-set areas devices a x d y h there ∙ rw (k, e, f)
+-- a device's choice, in the arrays
+module _ (d : ℕ) (areas : List Area) (devices : List Device) (areas-are : length areas ≡ 8) (there : d < length devices) where
+  start-job : (a : ℕ) → a < 8 → (t : Start) → t ≡ startOf a (getD areas a freshArea) →
+      coreIn (set areas a (t .area)) (set devices d (t .device)) ≡ startJob d a (isLock (jobIn areas a .task .kind)) (coreIn areas devices)
+  start-job a h t e =
+      core-set areas devices a (t .area) d (t .device) (omega arith) there
+      ∙ by-bool (isLock (jobIn areas a .task .kind)) (λ f. rw (e, f))
+      (λ f. rw (e, f) (λ i. record { jobs = sym (same-map (jobIn areas) a) i; devices = upd (stateIn devices) d (Runs a 0) }))
 
-  pub run-start : (y : Device) → isLock (jobIn areas a .task .kind) ≡ false → y .state ≡ Runs a 0 →
-      coreIn areas (set devices d y) ≡ startJob d a (isLock (jobIn areas a .task .kind)) (coreIn areas devices)
-  run-start y k f = (λ i. record { jobs = jobIn areas; devices = state-set devices d y there i }) ∙ rw (k, f)
+  module _ (records : List AreaRecord) (count : ℕ) (few : count ≤ 8) (needs : List ℕ) where
+    abbrev at-free : Best
+    at-free = bestTo records (readyIn needs areas d) count
 
--- a turn of the loop over the devices
+    -- a turn of the loop over the devices
+    pub start-turn : (b : Best) → b ≡ pick (isFree (stateIn devices d)) at-free Bests.Nobody → (k : ℕ) → k ≡ chosenIn b → (t : Start) →
+        t ≡ startWith b (getD areas k freshArea) (getD devices d freeDevice) →
+        coreIn (set areas k (t .area)) (set devices d (t .device)) ≡ start (needsLayout records count needs) d (coreIn areas devices)
+    start-turn b e = by-bool (isFree (stateIn devices d)) (λ f. free f b (e ∙ rw f)) (λ f. kept b (e ∙ rw f) (busy-start records count needs d areas devices f))
+      where
+        kept : (b : Best) → b ≡ Bests.Nobody → coreIn areas devices ≡ start (needsLayout records count needs) d (coreIn areas devices) → (k : ℕ) → k ≡ chosenIn b →
+            (t : Start) → t ≡ startWith b (getD areas k freshArea) (getD devices d freeDevice) →
+            coreIn (set areas k (t .area)) (set devices d (t .device)) ≡ start (needsLayout records count needs) d (coreIn areas devices)
+        kept b e same k f t g =
+            let k-is : k ≡ 0 = f ∙ ap chosenIn e in
+            let t-is = g ∙ ap (λ x. startWith x (getD areas k freshArea) (getD devices d freeDevice)) e in
+            core-kept areas devices k (t .area) d (t .device) (omega arith) there (ap (λ x. x .area .job) t-is) (ap (λ x. x .device .state) t-is) ∙ same
+
+        free : isFree (stateIn devices d) ≡ true → (b : Best) → b ≡ at-free → (k : ℕ) → k ≡ chosenIn b →
+            (t : Start) → t ≡ startWith b (getD areas k freshArea) (getD devices d freeDevice) →
+            coreIn (set areas k (t .area)) (set devices d (t .device)) ≡ start (needsLayout records count needs) d (coreIn areas devices)
+        free f Bests.Nobody e = kept Bests.Nobody refl (nobody-start records count needs d areas devices f Bests.Nobody e refl)
+        free f (Bests.Area a q) e = λ k g t h.
+            let known = best-below records (readyIn needs areas d) count (Bests.Area a q) e a q refl in
+            let few-areas : a < 8 = omega arith in
+            let k-is : k ≡ a = g ∙ rw (lt-ltb a 8 few-areas) in
+            area-start records count needs d areas devices f (Bests.Area a q) e a q refl _
+            (rw k-is (start-job a few-areas t (rw k-is at h)))
+
+-- the choices of the first n devices, and one more
 pub second-turn : (p : Layout) (n : ℕ) (c e next : Core) → e ≡ secondHalf p n c → next ≡ start p n e → next ≡ secondHalf p (n + 1) c
 unfolding secondHalf
 second-turn p n c e next f g = rw add-one (g ∙ ap (start p n) f)

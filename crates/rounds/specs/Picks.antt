@@ -11,23 +11,21 @@ use Rattle.arith.specs.Tables.{table}
 use Rattle.machine.specs.Sound.{jobIn}
 use Rattle.plan.specs.Questions.{areaOf}
 use Rattle.plan.specs.declared.records.AreaRecord.{AreaRecord}
-use Rattle.plan.specs.declared.records.Plan.{Plan}
-use Rattle.rules.specs.Layout.{Layout, ranksAbove, layoutOf}
-use Rattle.rules.specs.Machine.{isPending, need}
-use Rattle.segment.specs.Segments.{noSegment}
+use Rattle.rules.specs.Layout.{Layout, ranksAbove}
+use Rattle.rules.specs.Machine.{isPending, ended}
+use Rattle.segment.specs.Segments.{isLock, noSegment}
+use Rattle.segment.specs.declared.Segment.{Segment}
 use Rattle.state.specs.declared.Area.{Area}
+use Rattle.state.specs.declared.Device.{Device}
 use Rattle.state.specs.declared.DeviceState.{DeviceState}
 use Rattle.state.specs.declared.DeviceState.the-variants.{Free, Runs, LockedFor}
-use Rattle.state.specs.declared.Job.{Job}
 use Rattle.rounds.specs.declared.picks.Best.{Best}
+use Rattle.rounds.specs.declared.picks.Start.{Start}
 use Rattle.rounds.specs.declared.picks.Best.the-variants as Bests
 
--- the device that a pending job needs
-abbrev pub neededBy : Plan → ℕ → Job → ℕ
-neededBy p a j = pick (isPending j) (need (layoutOf p) a j) 0
-
-unfoldable pub needsOf : Plan → List Area → List ℕ
-needsOf p areas = table 8 (λ a. neededBy p a (jobIn areas a)) 0 8
+-- the devices of the due segments
+unfoldable pub needsOf : List Segment → List ℕ
+needsOf dues = table 8 (λ a. getD dues a noSegment .device) 0 8
 
 -- what the second half and the close ask of a plan, with those devices in the place of the segments
 unfoldable pub needsLayout : List AreaRecord → ℕ → List ℕ → Layout
@@ -60,6 +58,22 @@ bestTo records ready (suc a) = pick (ready a) (betterOf a (areaOf records a .pri
 
 abbrev pub readyIn : List ℕ → List Area → ℕ → ℕ → Bool
 readyIn needs areas d a = isPending (jobIn areas a) && eqb (getD needs a 0) d
+
+-- the area chosen
+abbrev pub chosenIn : Best → ℕ
+chosenIn Bests.Nobody = 0
+chosenIn (Bests.Area a q) = pick (ltb a 8) a 0
+
+-- area and device after the choice
+abbrev pub startOf : ℕ → Area → Start
+startOf a x =
+    pick (isLock (x .job .task .kind))
+    (record { area = record { job = ended 0 (x .job); waits = x .waits }; device = record { state = LockedFor a } })
+    (record { area = x; device = record { state = Runs a 0 } })
+
+abbrev pub startWith : Best → Area → Device → Start
+startWith Bests.Nobody x y = record { area = x; device = y }
+startWith (Bests.Area a q) x y = startOf a x
 
 -- a turn of the loop over the areas
 pub best-turn : (records : List AreaRecord) (ready : ℕ → Bool) (a : ℕ) (t : Bool) (best next : Best) → best ≡ bestTo records ready a → t ≡ ready a →

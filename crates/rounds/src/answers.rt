@@ -1,15 +1,23 @@
 // The first half of a round: every device with a running request takes its answer.
 ghost use mathlib.Core.Bool.{true};
 ghost use mathlib.Core.Path.{_≡_};
-ghost use Prim.Native.Nat.{_≤_, _<_};
-ghost use Rattle.machine.specs.Sound.{jobIn, stateIn, coreIn, stateSound, isSound};
+ghost use Prim.Native.Nat.{_≤_};
+ghost use Rattle.machine.specs.Dues.{Due};
+ghost use Rattle.machine.specs.Sound.{jobIn, coreIn, isSound};
 ghost use Rattle.rules.specs.Admission.{imageFits, storeReaches};
-ghost use Rattle.rules.specs.Round.{takeIn, takeAll};
+ghost use Rattle.rules.specs.Round.{takeAll};
 ghost use Rattle.rounds.specs.Close.{lentTo};
+ghost use Rattle.rounds.specs.Turns.{Lent, turnArea, turnState, turnDue, turnMemory};
 ghost use Rattle.requests.specs.Effects.{memoryOf};
+use machine::dues::runner;
 use memory::DeviceAnswer;
+use plan::records::AreaRecord;
+use plan::records::DeviceRecord;
 use plan::records::Plan;
+use plan::records::SubAreaRecord;
+use requests::next_segment;
 use requests::take_request;
+use segment::Segment;
 use state::Area;
 use state::Device;
 use state::DeviceState;
@@ -20,36 +28,76 @@ pub struct Arrays {
     pub devices: [Device; 4],
 }
 
+// What moves in the first half: the due segments of the pending jobs go with their jobs.
+pub struct FirstHalf {
+    pub areas: [Area; 8],
+    pub devices: [Device; 4],
+    pub dues: [Segment; 8],
+}
+
+// What a device's answer makes of the device, and of the area that its request is for.
+pub struct Turn {
+    pub area: Area,
+    pub due: Segment,
+    pub device: Device,
+}
+
+// A device in this state takes its answer; `entry` and `due` are of the area that its request is for.
 fn take_answer(
-    plan: Plan,
-    device: usize,
+    sub_areas: [SubAreaRecord; 32],
+    count: usize,
+    place: AreaRecord,
+    holder: DeviceRecord,
+    entry: Area,
+    due: Segment,
+    state: DeviceState,
     answer: DeviceAnswer,
-    mut areas: [Area; 8],
-    mut devices: [Device; 4],
     image: &mut [u8],
     store: &mut [u8],
-) -> Arrays
-    requires { ⌜ (plan .«sub_area_count» ≤ 32) × (plan .«area_count» ≤ 8) × (device < 4) × (stateSound plan device (jobIn areas) (stateIn devices device) ≡ true) × (imageFits plan (now image) ≡ true) × (storeReaches plan (now store) ≡ true) ⌝ }
-    ensures { λ r. ⌜ coreIn (r .areas) (r .devices) ≡ takeIn plan device answer (lentTo areas devices (memoryOf (now (image .entry)) (now (store .entry)))) .core ⌝ }
-    ensures { λ _. ⌜ now (image .exit) ≡ takeIn plan device answer (lentTo areas devices (memoryOf (now (image .entry)) (now (store .entry)))) .memory .image ⌝ }
-    ensures { λ _. ⌜ now (store .exit) ≡ takeIn plan device answer (lentTo areas devices (memoryOf (now (image .entry)) (now (store .entry)))) .memory .store ⌝ }
+) -> Turn
+    requires { ⌜ (count ≤ 32) × Lent place entry due (now image) (now store) state ⌝ }
+    ensures { λ r. ⌜ r .area ≡ turnArea «sub_areas» count place holder entry due answer (memoryOf (now (image .entry)) (now (store .entry))) state ⌝ }
+    ensures { λ r. ⌜ r .due ≡ turnDue «sub_areas» count place entry due answer (memoryOf (now (image .entry)) (now (store .entry))) state ⌝ }
+    ensures { λ r. ⌜ r .device .state ≡ turnState place holder entry due answer (memoryOf (now (image .entry)) (now (store .entry))) state ⌝ }
+    ensures { λ _. ⌜ now (image .exit) ≡ turnMemory place entry due answer (memoryOf (now (image .entry)) (now (store .entry))) state .image ⌝ }
+    ensures { λ _. ⌜ now (store .exit) ≡ turnMemory place entry due answer (memoryOf (now (image .entry)) (now (store .entry))) state .store ⌝ }
 {
-    let holder = devices[device];
-    let state = holder.state;
     match state {
-        DeviceState::Free => Arrays { areas, devices },
-        DeviceState::LockedFor(_) => Arrays { areas, devices },
+        DeviceState::Free => Turn {
+            area: entry,
+            due,
+            device: Device { state },
+        },
+        DeviceState::LockedFor(_) => Turn {
+            area: entry,
+            due,
+            device: Device { state },
+        },
         DeviceState::Runs { area, polls } => {
-            let number = area as usize;
-            let entry = areas[number];
             let job = entry.job;
             let waits = entry.waits;
-            let taken = take_request(plan, device, area, polls, job, answer, image, store);
+            let start = place.start;
+            let next = next_segment(answer, sub_areas, count, start, area as usize, job, due);
+            let taken = take_request(
+                place.window.start,
+                holder.poll_limit,
+                area,
+                polls,
+                job,
+                due,
+                next,
+                answer,
+                image,
+                store,
+            );
             let job = taken.job;
-            areas[number] = Area { job, waits };
+            let due = taken.due;
             let state = taken.state;
-            devices[device] = Device { state };
-            Arrays { areas, devices }
+            Turn {
+                area: Area { job, waits },
+                due,
+                device: Device { state },
+            }
         }
     }
 }
@@ -59,20 +107,48 @@ pub fn first_half(
     answers: [DeviceAnswer; 4],
     mut areas: [Area; 8],
     mut devices: [Device; 4],
+    mut dues: [Segment; 8],
     image: &mut [u8],
     store: &mut [u8],
-) -> Arrays
-    requires { ⌜ (isSound plan areas devices ≡ true) × (imageFits plan (now image) ≡ true) × (storeReaches plan (now store) ≡ true) ⌝ }
+) -> FirstHalf
+    requires { ⌜ (isSound plan areas devices ≡ true) × (imageFits plan (now image) ≡ true) × (storeReaches plan (now store) ≡ true) × Due plan dues (jobIn areas) ⌝ }
     ensures { λ r. ⌜ coreIn (r .areas) (r .devices) ≡ takeAll plan answers (plan .«device_count») (lentTo areas devices (memoryOf (now (image .entry)) (now (store .entry)))) .core ⌝ }
+    ensures { λ r. ⌜ Due plan (r .dues) (jobIn (r .areas)) ⌝ }
     ensures { λ _. ⌜ now (image .exit) ≡ takeAll plan answers (plan .«device_count») (lentTo areas devices (memoryOf (now (image .entry)) (now (store .entry)))) .memory .image ⌝ }
     ensures { λ _. ⌜ now (store .exit) ≡ takeAll plan answers (plan .«device_count») (lentTo areas devices (memoryOf (now (image .entry)) (now (store .entry)))) .memory .store ⌝ }
 {
+    let sub_areas = plan.sub_areas;
+    let records = plan.areas;
+    let holders = plan.devices;
     let mut d = 0;
     while d < plan.device_count {
-        let taken = take_answer(plan, d, answers[d], areas, devices, image, store);
-        areas = taken.areas;
-        devices = taken.devices;
+        let device = devices[d];
+        let state = device.state;
+        // the area that its request is for, or any: without a request it stays as it is
+        let number = runner(state);
+        let turn = take_answer(
+            sub_areas,
+            plan.sub_area_count,
+            records[number],
+            holders[d],
+            areas[number],
+            dues[number],
+            state,
+            answers[d],
+            image,
+            store,
+        );
+        let area = turn.area;
+        let due = turn.due;
+        let device = turn.device;
+        areas[number] = area;
+        dues[number] = due;
+        devices[d] = device;
         d += 1;
     }
-    Arrays { areas, devices }
+    FirstHalf {
+        areas,
+        devices,
+        dues,
+    }
 }

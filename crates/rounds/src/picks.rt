@@ -5,47 +5,31 @@ ghost use Prim.Native.Nat.{_≤_, _<_};
 ghost use lib.Dec.{eqb};
 ghost use lib.ListN.{getD};
 ghost use Rattle.arith.specs.Cases.{pick};
-ghost use Rattle.machine.specs.Sound.{jobIn, coreIn};
-ghost use Rattle.rules.specs.Machine.{isPending, startJob, start, secondHalf};
-ghost use Rattle.segment.specs.Segments.{isLock};
-ghost use Rattle.rounds.specs.Picks.{neededBy, needsOf, rankAbove, betterOf, bestTo, readyIn, isFree, needsLayout};
+ghost use Rattle.machine.specs.Sound.{coreIn};
+ghost use Rattle.rules.specs.Machine.{isPending, secondHalf};
+ghost use Rattle.rounds.specs.Picks.{needsOf, rankAbove, betterOf, bestTo, readyIn, isFree, chosenIn, startOf, startWith, needsLayout};
+ghost use Rattle.rounds.specs.declared.picks.Best.the-variants.{Nobody};
 use crate::answers::Arrays;
 use jobs::ended;
 use jobs::is_pending;
 use memory::JobResult;
 use plan::records::AreaRecord;
-use plan::records::Plan;
+use segment::Segment;
 use segment::is_lock;
-use segment::segment_at;
 use state::Area;
 use state::Device;
 use state::DeviceState;
 use state::Job;
 
-// The device that a pending job needs.
-fn needed_device(plan: Plan, area: usize, job: Job) -> u8
-    requires { ⌜ (plan .«sub_area_count» ≤ 32) × (area < 8) ⌝ }
-    ensures { λ r. ⌜ r ≡ neededBy plan area job ⌝ }
-{
-    if !is_pending(job) {
-        return 0;
-    }
-    let task = job.task;
-    let segment = segment_at(plan, area, task, job.processed);
-    segment.device
-}
-
-// The devices that the pending jobs need, found once for the second half and the close.
-pub fn needed_devices(plan: Plan, areas: [Area; 8]) -> [u8; 8]
-    requires { ⌜ plan .«sub_area_count» ≤ 32 ⌝ }
-    ensures { λ r. ⌜ r ≡ needsOf plan areas ⌝ }
+// The devices that the pending jobs need: those of their due segments.
+pub fn needed_devices(dues: [Segment; 8]) -> [u8; 8]
+    ensures { λ r. ⌜ r ≡ needsOf dues ⌝ }
 {
     let mut needs = [0u8; 8];
     let mut a = 0;
     while a < 8 {
-        let entry = areas[a];
-        let job = entry.job;
-        needs[a] = needed_device(plan, a, job);
+        let due = dues[a];
+        needs[a] = due.device;
         a += 1;
     }
     needs
@@ -129,29 +113,6 @@ fn best_area(
     best
 }
 
-// A free device starts the request of the area's job, or is locked for it.
-fn start_job(device: usize, area: u8, mut areas: [Area; 8], mut devices: [Device; 4]) -> Arrays
-    requires { ⌜ (device < 4) × (area < 8) ⌝ }
-    ensures { λ r. ⌜ coreIn (r .areas) (r .devices) ≡ startJob device area (isLock (jobIn areas area .task .kind)) (coreIn areas devices) ⌝ }
-{
-    let number = area as usize;
-    let entry = areas[number];
-    let job = entry.job;
-    let task = job.task;
-    let kind = task.kind;
-    if is_lock(kind) {
-        let waits = entry.waits;
-        let job = ended(job, JobResult::OK);
-        areas[number] = Area { job, waits };
-        let state = DeviceState::LockedFor(area);
-        devices[device] = Device { state };
-        return Arrays { areas, devices };
-    }
-    let state = DeviceState::Runs { area, polls: 0 };
-    devices[device] = Device { state };
-    Arrays { areas, devices }
-}
-
 fn is_free(state: DeviceState) -> bool
     ensures { λ r. ⌜ r ≡ isFree state ⌝ }
 {
@@ -162,27 +123,78 @@ fn is_free(state: DeviceState) -> bool
     }
 }
 
-// One device picks.
-fn start_device(
+// The choice of a device in this state.
+fn pick_area(
+    state: DeviceState,
     records: [AreaRecord; 8],
     count: usize,
     needs: [u8; 8],
-    device: usize,
     areas: [Area; 8],
-    devices: [Device; 4],
-) -> Arrays
-    requires { ⌜ (count ≤ 8) × (device < 4) ⌝ }
-    ensures { λ r. ⌜ coreIn (r .areas) (r .devices) ≡ start (needsLayout records count needs) device (coreIn areas devices) ⌝ }
+    device: usize,
+) -> Best
+    requires { ⌜ count ≤ 8 ⌝ }
+    ensures { λ r. ⌜ r ≡ pick (isFree state) (bestTo records (readyIn needs areas device) count) Nobody ⌝ }
 {
-    let holder = devices[device];
-    let state = holder.state;
     if !is_free(state) {
-        return Arrays { areas, devices };
+        return Best::Nobody;
     }
-    let best = best_area(records, count, needs, areas, device);
+    best_area(records, count, needs, areas, device)
+}
+
+// The area chosen; 0 where none is that a manager has.
+fn chosen(best: Best) -> usize
+    ensures { λ r. ⌜ r ≡ chosenIn best ⌝ }
+    ensures { λ r. ⌜ r < 8 ⌝ }
+{
     match best {
-        Best::Nobody => Arrays { areas, devices },
-        Best::Area { area, priority: _ } => start_job(device, area, areas, devices),
+        Best::Nobody => 0,
+        Best::Area { area, priority: _ } => {
+            if 8 <= area {
+                return 0;
+            }
+            area as usize
+        }
+    }
+}
+
+// An area and a device when the device has picked.
+pub struct Start {
+    pub area: Area,
+    pub device: Device,
+}
+
+// A free device starts the request of the area's job, or is locked for it.
+fn start_job(area: u8, entry: Area) -> Start
+    ensures { λ r. ⌜ r ≡ startOf area entry ⌝ }
+{
+    let job = entry.job;
+    let task = job.task;
+    let kind = task.kind;
+    if is_lock(kind) {
+        let waits = entry.waits;
+        let job = ended(job, JobResult::OK);
+        let state = DeviceState::LockedFor(area);
+        return Start {
+            area: Area { job, waits },
+            device: Device { state },
+        };
+    }
+    let state = DeviceState::Runs { area, polls: 0 };
+    Start {
+        area: entry,
+        device: Device { state },
+    }
+}
+
+fn start_choice(best: Best, entry: Area, device: Device) -> Start
+    ensures { λ r. ⌜ r ≡ startWith best entry device ⌝ }
+{
+    match best {
+        Best::Nobody => Start {
+            area: entry,
+            device,
+        },
+        Best::Area { area, priority: _ } => start_job(area, entry),
     }
 }
 
@@ -200,9 +212,16 @@ pub fn second_half(
 {
     let mut d = 0;
     while d < device_count {
-        let started = start_device(records, count, needs, d, areas, devices);
-        areas = started.areas;
-        devices = started.devices;
+        let device = devices[d];
+        let state = device.state;
+        let best = pick_area(state, records, count, needs, areas, d);
+        // without a choice any area will do: it stays as it is
+        let number = chosen(best);
+        let start = start_choice(best, areas[number], device);
+        let area = start.area;
+        let device = start.device;
+        areas[number] = area;
+        devices[d] = device;
         d += 1;
     }
     Arrays { areas, devices }

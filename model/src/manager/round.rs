@@ -4,6 +4,7 @@
 use super::{DeviceState, Manager, Need, Request, Wait};
 use crate::admission;
 use crate::jobs::{Answer, JobResult, Operation};
+use crate::plan::MOST_AREAS;
 use crate::segments::index;
 use std::ops::Range;
 
@@ -22,12 +23,17 @@ impl Manager {
         for (device, answer) in (0..self.devices.len()).zip(answers) {
             self.take_answer(device, answer, image, store);
         }
-        // Not before all answers are in: any of them may bring a job to this device.
+        // Not before all answers are in: any of them may bring a job to a device. What starts changes no job's need, so
+        // the needs are worked out once.
+        let needed: [Option<usize>; MOST_AREAS] =
+            std::array::from_fn(|area| self.needed_device(area));
         for device in 0..self.devices.len() {
-            self.start(device);
+            self.start(device, &needed);
         }
-        for area in 0..self.areas.len() {
-            self.count_wait(area);
+        for (area, device) in needed.iter().enumerate() {
+            if let Some(device) = device {
+                self.count_wait(area, *device);
+            }
         }
         0
     }
@@ -64,10 +70,11 @@ impl Manager {
             return state.end(JobResult::Inconsistent);
         }
         state.processed += request.piece.length;
-        if state.is_cancelled || self.need(request.area).is_none() {
-            return self.areas[request.area].end(JobResult::Ok);
+        let is_cancelled = state.is_cancelled;
+        match self.need(request.area) {
+            Some(need) if !is_cancelled => self.areas[request.area].retries_left = need.retries(),
+            _ => self.areas[request.area].end(JobResult::Ok),
         }
-        self.renew_retries(request.area);
     }
 
     /// What a done request does to image and store, and whether it found what it should.
@@ -113,13 +120,13 @@ impl Manager {
 
     /// "every unlocked device with nothing running picks the highest ranked area whose next piece
     /// lies on it, or whose lock request names it"
-    fn start(&mut self, device: usize) {
+    fn start(&mut self, device: usize, needed: &[Option<usize>]) {
         if self.devices[device] != DeviceState::Free {
             return;
         }
         let mut chosen: Option<usize> = None;
-        for area in 0..self.areas.len() {
-            let is_candidate = self.needed_device(area) == Some(device);
+        for (area, need) in needed.iter().enumerate() {
+            let is_candidate = *need == Some(device);
             if is_candidate && chosen.is_none_or(|other| self.ranks_above(area, other)) {
                 chosen = Some(area);
             }
@@ -142,7 +149,7 @@ impl Manager {
 
     /// The device that a pending job needs.
     fn needed_device(&self, area: usize) -> Option<usize> {
-        if !self.areas[area].is_pending {
+        if !self.areas.get(area)?.is_pending {
             return None;
         }
         match self.need(area)? {
@@ -160,10 +167,11 @@ impl Manager {
 
     /// "When the round closes, each job pending since before it adds 1 to one count." Calls and
     /// rounds do not overlap, so every pending job is pending since before.
-    fn count_wait(&mut self, area: usize) {
-        let Some(device) = self.needed_device(area) else {
+    fn count_wait(&mut self, area: usize, device: usize) {
+        // A lock request may have ended.
+        if !self.areas[area].is_pending {
             return;
-        };
+        }
         let wait = match self.devices[device] {
             DeviceState::Running(request) if request.area == area => Wait::Own,
             DeviceState::Running(request) if self.ranks_above(request.area, area) => Wait::Above,

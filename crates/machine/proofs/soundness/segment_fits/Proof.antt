@@ -1,74 +1,57 @@
-use Rattle.machine.specs.Sound.{other-device, past-image, past-job, no-window, window-decides}
-use borrow.Author.Tests.{not-true, not-false}
-use native.Mathlib.Omega.{arith}
 use mathlib.Core.Path.{sym, _∙_}
+use native.Mathlib.Omega.{arith}
+use Rattle.machine.specs.Sound.{other-device, past-image, past-job, no-window, window-decides}
+use borrow.Author.Tests.{eq-eqb, le-ltb, lt-ltb, ne-eqb, not-true, not-false}
 use borrow.Author.Needs.{needs}
 use Rattle.machine.proofs.soundness.segment_fits.Statement.{statement}
 use Rattle.machine.proofs.soundness.segment_fits.Tie as tie
 use Rattle.machine.proofs.soundness.segment_fits.Reads as reads
 use Rattle.machine.proofs.soundness.segment_fits.Lts as lts
 use Rattle.admission.proofs.uses_window.Reads as uses-window-reads
-use Rattle.plan.proofs.questions.device_sum.Reads as device-sum-reads
 
--- src/soundness.rt:31:8
+-- src/soundness.rt:38:8
 cast-if1 : tie.Need-cast-if1
 cast-if1 c = search needs
 
--- src/soundness.rt:32:9
+-- src/soundness.rt:39:9
 returns : tie.Need-returns
-returns c = other-device (c .before .before .args .t1) (c .before .before .args .device) (c .before .before .args .area) (c .before .before .args .job) (c .before .before .args .segment) (c .if1 .taken)
+returns c = other-device (c .before .before .args .sum) (c .before .before .args .window) (c .before .before .args .device) (c .before .before .args .job) (c .before .before .args .segment) (c .if1 .taken)
 
--- src/soundness.rt:35:9
-device-sum-requires : tie.Need-device-sum-requires
-device-sum-requires c κs = search needs
-
--- src/soundness.rt:37:9
+-- src/soundness.rt:42:9
 returns-2 : tie.Need-returns-2
-returns-2 c = past-image (c .before .before .before .before .before .before .args .t1) (c .before .before .before .before .before .before .args .device) (c .before .before .before .before .before .before .args .area) (c .before .before .before .before .before .before .args .job) (c .before .before .before .before .before .before .args .segment) (c .before .before .before .before .if1 .left) (omega (arith, c .before .before .device-sum .ensures .0, c .if2 .taken))
+returns-2 c = past-image (c .before .before .before .before .args .sum) (c .before .before .before .before .args .window) (c .before .before .before .before .args .device) (c .before .before .before .before .args .job) (c .before .before .before .before .args .segment) (c .before .before .if1 .left) (omega (arith, c .if2 .taken))
 
--- src/soundness.rt:40:9
+-- src/soundness.rt:45:9
 returns-3 : tie.Need-returns-3
-returns-3 c = past-image (c .before .before .before .before .before .before .before .before .before .args .t1) (c .before .before .before .before .before .before .before .before .before .args .device) (c .before .before .before .before .before .before .before .before .before .args .area) (c .before .before .before .before .before .before .before .before .before .args .job) (c .before .before .before .before .before .before .before .before .before .args .segment) (c .before .before .before .before .before .before .before .if1 .left) (omega (arith, c .before .before .before .before .before .device-sum .ensures .0, c .before .before .before .if2 .left, c .if3 .taken))
+returns-3 c = past-image (c .before .before .before .before .before .before .before .args .sum) (c .before .before .before .before .before .before .before .args .window) (c .before .before .before .before .before .before .before .args .device) (c .before .before .before .before .before .before .before .args .job) (c .before .before .before .before .before .before .before .args .segment) (c .before .before .before .before .before .if1 .left) (omega (arith, c .before .before .before .if2 .left, c .if3 .taken))
 
--- src/soundness.rt:43:17
+-- src/soundness.rt:48:17
 cast-upto : tie.Need-cast-upto
 cast-upto c = search needs
 
--- src/soundness.rt:43:16
+-- src/soundness.rt:48:16
 add-upto : tie.Need-add-upto
-add-upto c = search needs
+add-upto c = omega (arith, c .before .before .before .before .before .before .before .before .before .before .pre, c .before .before .before .before .before .before .if2 .left, c .before .before .before .if3 .left)
 
--- src/soundness.rt:44:9
+-- src/soundness.rt:49:9
 cast-if4 : tie.Need-cast-if4
 cast-if4 c = search needs
 
--- src/soundness.rt:45:9
+-- src/soundness.rt:50:9
 returns-4 : tie.Need-returns-4
-returns-4 c = past-job (c .before .before .before .before .before .before .before .before .before .before .before .before .before .before .args .t1) (c .before .before .before .before .before .before .before .before .before .before .before .before .before .before .args .device) (c .before .before .before .before .before .before .before .before .before .before .before .before .before .before .args .area) (c .before .before .before .before .before .before .before .before .before .before .before .before .before .before .args .job) (c .before .before .before .before .before .before .before .before .before .before .before .before .before .before .args .segment) (c .before .before .before .before .before .before .before .before .before .before .before .before .if1 .left) (omega (arith, c .before .before .before .before .before .before .before .before .before .before .device-sum .ensures .0, c .before .before .before .before .before .before .before .before .if2 .left, c .before .before .before .before .before .if3 .left)) (c .if4 .taken)
+returns-4 c = past-job (c .before .before .before .before .before .before .before .before .before .before .before .before .args .sum) (c .before .before .before .before .before .before .before .before .before .before .before .before .args .window) (c .before .before .before .before .before .before .before .before .before .before .before .before .args .device) (c .before .before .before .before .before .before .before .before .before .before .before .before .args .job) (c .before .before .before .before .before .before .before .before .before .before .before .before .args .segment) (c .before .before .before .before .before .before .before .before .before .before .if1 .left) (omega (arith, c .before .before .before .before .before .before .before .before .if2 .left, c .before .before .before .before .before .if3 .left)) (omega (arith, c .if4 .taken))
 
--- src/soundness.rt:48:9
+-- src/soundness.rt:53:9
 uses-window-requires : tie.Need-uses-window-requires
 uses-window-requires c κs = search needs
 
--- src/soundness.rt:49:9
+-- src/soundness.rt:54:9
 returns-5 : tie.Need-returns-5
-returns-5 c = no-window (c .before .before .before .before .before .before .before .before .before .before .before .before .before .before .before .before .args .t1) (c .before .before .before .before .before .before .before .before .before .before .before .before .before .before .before .before .args .device) (c .before .before .before .before .before .before .before .before .before .before .before .before .before .before .before .before .args .area) (c .before .before .before .before .before .before .before .before .before .before .before .before .before .before .before .before .args .job) (c .before .before .before .before .before .before .before .before .before .before .before .before .before .before .before .before .args .segment) (c .before .before .before .before .before .before .before .before .before .before .before .before .before .before .if1 .left) (omega (arith, c .before .before .before .before .before .before .before .before .before .before .before .before .device-sum .ensures .0, c .before .before .before .before .before .before .before .before .before .before .if2 .left, c .before .before .before .before .before .before .before .if3 .left)) (c .before .before .if4 .left) (sym (c .before .uses-window .ensures) ∙ not-true (c .before .uses-window .result) (c .if5 .taken))
+returns-5 c = no-window (c .before .before .before .before .before .before .before .before .before .before .before .before .before .before .args .sum) (c .before .before .before .before .before .before .before .before .before .before .before .before .before .before .args .window) (c .before .before .before .before .before .before .before .before .before .before .before .before .before .before .args .device) (c .before .before .before .before .before .before .before .before .before .before .before .before .before .before .args .job) (c .before .before .before .before .before .before .before .before .before .before .before .before .before .before .args .segment) (c .before .before .before .before .before .before .before .before .before .before .before .before .if1 .left) (omega (arith, c .before .before .before .before .before .before .before .before .before .before .if2 .left, c .before .before .before .before .before .before .before .if3 .left)) (omega (arith, c .before .before .if4 .left)) (sym (c .before .uses-window .ensures) ∙ not-true _ (c .if5 .taken))
 
--- src/soundness.rt:51:18
-mul-record : tie.Need-mul-record
-mul-record c = search needs
-
--- src/soundness.rt:51:18
-element-copy-out-record : tie.Need-element-copy-out-record
-element-copy-out-record c = search needs
-
--- src/soundness.rt:52:13
-cast-result : tie.Need-cast-result
-cast-result c = search needs
-
--- src/soundness.rt:27:1
+-- src/soundness.rt:34:1
 returns-6 : tie.Need-returns-6
-returns-6 c = window-decides (c .before .before .before .before .before .before .before .before .before .before .before .before .before .before .before .before .before .before .args .t1) (c .before .before .before .before .before .before .before .before .before .before .before .before .before .before .before .before .before .before .args .device) (c .before .before .before .before .before .before .before .before .before .before .before .before .before .before .before .before .before .before .args .area) (c .before .before .before .before .before .before .before .before .before .before .before .before .before .before .before .before .before .before .args .job) (c .before .before .before .before .before .before .before .before .before .before .before .before .before .before .before .before .before .before .args .segment) (c .before .before .before .before .before .before .before .before .before .before .before .before .before .before .before .before .if1 .left) (omega (arith, c .before .before .before .before .before .before .before .before .before .before .before .before .before .before .device-sum .ensures .0, c .before .before .before .before .before .before .before .before .before .before .before .before .if2 .left, c .before .before .before .before .before .before .before .before .before .if3 .left)) (c .before .before .before .before .if4 .left) (sym (c .before .before .before .uses-window .ensures) ∙ not-false (c .before .before .before .uses-window .result) (c .before .before .if5 .left))
+returns-6 c = window-decides (c .before .before .before .before .before .before .before .before .before .before .before .before .before .before .args .sum) (c .before .before .before .before .before .before .before .before .before .before .before .before .before .before .args .window) (c .before .before .before .before .before .before .before .before .before .before .before .before .before .before .args .device) (c .before .before .before .before .before .before .before .before .before .before .before .before .before .before .args .job) (c .before .before .before .before .before .before .before .before .before .before .before .before .before .before .args .segment) (c .before .before .before .before .before .before .before .before .before .before .before .before .if1 .left) (omega (arith, c .before .before .before .before .before .before .before .before .before .before .if2 .left, c .before .before .before .before .before .before .before .if3 .left)) (omega (arith, c .before .before .if4 .left)) (sym (c .before .uses-window .ensures) ∙ not-false _ (c .if5 .left))
 
 pub segment-fits-spec : {M : Type 1} → statement M
 segment-fits-spec =
@@ -76,7 +59,6 @@ segment-fits-spec =
     (tie.spec
     cast-if1
     returns
-    device-sum-requires
     returns-2
     returns-3
     cast-upto
@@ -85,7 +67,4 @@ segment-fits-spec =
     returns-4
     uses-window-requires
     returns-5
-    mul-record
-    element-copy-out-record
-    cast-result
     returns-6)

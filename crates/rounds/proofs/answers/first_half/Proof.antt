@@ -1,76 +1,137 @@
-use Rattle.rounds.specs.AnswerLaws.{sound-counts, turn-sound, image-again, store-again}
-use Rattle.rounds.specs.Halves.{both, take-turn}
+use Prim.Native.Nat.{_-_, _≤_, _<_}
+use mathlib.Core.Path.{_≡_, refl, sym, ap, _∙_}
+use native.Mathlib.Omega.{arith}
+use lib.ListN.{length, length-set}
+use Rattle.machine.specs.Dues.{Due}
+use Rattle.machine.specs.Sound.{jobIn, coreIn}
+use Rattle.rules.specs.Round.{takeAll, answerOf}
 use Rattle.requests.specs.Effects.{memoryOf}
 use Rattle.rounds.specs.Close.{lentTo}
-use Rattle.rules.specs.Round.{takeAll}
-use Rattle.machine.specs.Sound.{coreIn}
-use lib.ListN.{length}
-use mathlib.Core.Path.{_≡_, refl, ap, _∙_}
-use native.Mathlib.Omega.{arith}
-use Prim.Native.Nat.{_-_, _≤_, _<_}
+use Rattle.rounds.specs.Turns.{lent-turn, memory-turn, core-turn}
+use Rattle.rounds.specs.Halves.{both, take-turn}
+use Rattle.rounds.specs.AnswerLaws.{sound-counts, turn-sound, image-again, store-again}
 use borrow.Author.Needs.{needs}
 use Rattle.rounds.proofs.answers.first_half.Statement.{statement}
 use Rattle.rounds.proofs.answers.first_half.Tie as tie
 use Rattle.rounds.proofs.answers.first_half.Reads as reads
 use Rattle.rounds.proofs.answers.first_half.Lts as lts
+use Rattle.machine.proofs.dues.runner.Reads as runner-reads
 use Rattle.rounds.proofs.answers.take_answer.Reads as take-answer-reads
 
 abbrev Inv-loop : tie.InvT-loop
-Inv-loop plan areas₀ devices₀ image₀ store₀ answers d₀ areas devices image store d = (d ≤ plan .«device_count») × (length image ≡ length image₀) × (length store ≡ length store₀) × ((coreIn areas devices, memoryOf image store) ≡ both (takeAll plan answers d (lentTo areas₀ devices₀ (memoryOf image₀ store₀))))
+Inv-loop plan image₀ store₀ answers areas₀ devices₀ dues₀ sub-areas records holders d₀ image store areas devices dues d = (d ≤ plan .«device_count») × (sub-areas ≡ plan .«sub_areas») × (records ≡ plan .areas) × (holders ≡ plan .devices) × (length image ≡ length image₀) × (length store ≡ length store₀) × (length areas ≡ 8) × (length devices ≡ 4) × (length dues ≡ 8) × ((coreIn areas devices, memoryOf image store) ≡ both (takeAll plan answers d (lentTo areas₀ devices₀ (memoryOf image₀ store₀)))) × Due plan dues (jobIn areas)
 
 abbrev μ-loop : tie.MeasureT-loop
-μ-loop plan areas₀ devices₀ image₀ store₀ answers d₀ areas devices image store d = plan .«device_count» - d
+μ-loop plan image₀ store₀ answers areas₀ devices₀ dues₀ sub-areas records holders d₀ image store areas devices dues d = plan .«device_count» - d
 
--- src/answers.rt:71:5
+-- src/answers.rt:124:5
 loop-holds : tie.Need-loop-holds Inv-loop μ-loop
 unfolding takeAll
-loop-holds c = (omega arith, refl, refl, refl)
+loop-holds c = (omega arith, refl, refl, refl, refl, refl, c .before .before .before .before .before .good .1 .1 .0 .1 .0 .1, c .before .before .before .before .before .good .1 .1 .1 .0 .1 .0 .1, c .before .before .before .before .before .good .1 .1 .1 .1 .0 .1 .0 .1, refl, c .before .before .before .before .before .pre .3)
 
--- src/answers.rt:72:42
+-- src/answers.rt:125:22
+mul-device : tie.Need-mul-device Inv-loop μ-loop
+mul-device c = let few = sound-counts (c .before .before .before .before .before .before .before .before .args .plan) (c .before .before .before .before .before .before .before .before .args .t3) (c .before .before .before .before .before .before .before .before .args .t4) (c .before .before .before .before .before .before .before .before .pre .0) in omega (arith, few .2, c .if1 .taken)
+
+-- src/answers.rt:125:22
+array-copy-out-device : tie.Need-array-copy-out-device Inv-loop μ-loop
+array-copy-out-device c = let few = sound-counts (c .before .before .before .before .before .before .before .before .args .plan) (c .before .before .before .before .before .before .before .before .args .t3) (c .before .before .before .before .before .before .before .before .args .t4) (c .before .before .before .before .before .before .before .before .pre .0) in omega (arith, few .2, c .if1 .taken)
+
+-- src/answers.rt:128:13
+runner-requires : tie.Need-runner-requires Inv-loop μ-loop
+runner-requires c κs = search needs
+
+-- src/answers.rt:132:13
 mul-take-answer : tie.Need-mul-take-answer Inv-loop μ-loop
-mul-take-answer c = let few = sound-counts (c .before .before .before .before .before .args .plan) (c .before .before .before .before .before .args .areas) (c .before .before .before .before .before .args .devices) (c .before .before .before .before .before .pre .0) in omega (arith, few .2, c .if1 .taken)
+mul-take-answer c = search needs
 
--- src/answers.rt:72:42
+-- src/answers.rt:132:13
 array-copy-out-take-answer : tie.Need-array-copy-out-take-answer Inv-loop μ-loop
-array-copy-out-take-answer c = let few = sound-counts (c .before .before .before .before .before .args .plan) (c .before .before .before .before .before .args .areas) (c .before .before .before .before .before .args .devices) (c .before .before .before .before .before .pre .0) in omega (arith, few .2, c .if1 .taken)
+array-copy-out-take-answer c = search needs
 
--- src/answers.rt:72:13
+-- src/answers.rt:133:13
+mul-take-answer-2 : tie.Need-mul-take-answer-2 Inv-loop μ-loop
+mul-take-answer-2 c = let few = sound-counts (c .before .before .before .before .before .before .before .before .before .before .before .args .plan) (c .before .before .before .before .before .before .before .before .before .before .before .args .t3) (c .before .before .before .before .before .before .before .before .before .before .before .args .t4) (c .before .before .before .before .before .before .before .before .before .before .before .pre .0) in omega (arith, few .2, c .before .before .before .if1 .taken)
+
+-- src/answers.rt:133:13
+array-copy-out-take-answer-2 : tie.Need-array-copy-out-take-answer-2 Inv-loop μ-loop
+array-copy-out-take-answer-2 c = let few = sound-counts (c .before .before .before .before .before .before .before .before .before .before .before .args .plan) (c .before .before .before .before .before .before .before .before .before .before .before .args .t3) (c .before .before .before .before .before .before .before .before .before .before .before .args .t4) (c .before .before .before .before .before .before .before .before .before .before .before .pre .0) in omega (arith, few .2, c .before .before .before .if1 .taken)
+
+-- src/answers.rt:134:13
+mul-take-answer-3 : tie.Need-mul-take-answer-3 Inv-loop μ-loop
+mul-take-answer-3 c = search needs
+
+-- src/answers.rt:134:13
+array-copy-out-take-answer-3 : tie.Need-array-copy-out-take-answer-3 Inv-loop μ-loop
+array-copy-out-take-answer-3 c = search needs
+
+-- src/answers.rt:135:13
+mul-take-answer-4 : tie.Need-mul-take-answer-4 Inv-loop μ-loop
+mul-take-answer-4 c = search needs
+
+-- src/answers.rt:135:13
+array-copy-out-take-answer-4 : tie.Need-array-copy-out-take-answer-4 Inv-loop μ-loop
+array-copy-out-take-answer-4 c = search needs
+
+-- src/answers.rt:137:13
+mul-take-answer-5 : tie.Need-mul-take-answer-5 Inv-loop μ-loop
+mul-take-answer-5 c = let few = sound-counts (c .before .before .before .before .before .before .before .before .before .before .before .before .before .before .args .plan) (c .before .before .before .before .before .before .before .before .before .before .before .before .before .before .args .t3) (c .before .before .before .before .before .before .before .before .before .before .before .before .before .before .args .t4) (c .before .before .before .before .before .before .before .before .before .before .before .before .before .before .pre .0) in omega (arith, few .2, c .before .before .before .before .before .before .if1 .taken)
+
+-- src/answers.rt:137:13
+array-copy-out-take-answer-5 : tie.Need-array-copy-out-take-answer-5 Inv-loop μ-loop
+array-copy-out-take-answer-5 c = let few = sound-counts (c .before .before .before .before .before .before .before .before .before .before .before .before .before .before .args .plan) (c .before .before .before .before .before .before .before .before .before .before .before .before .before .before .args .t3) (c .before .before .before .before .before .before .before .before .before .before .before .before .before .before .args .t4) (c .before .before .before .before .before .before .before .before .before .before .before .before .before .before .pre .0) in omega (arith, few .2, c .before .before .before .before .before .before .if1 .taken)
+
+-- src/answers.rt:129:13
 take-answer-requires : tie.Need-take-answer-requires Inv-loop μ-loop
-take-answer-requires c κs = let few = sound-counts (c .before .before .before .before .before .before .before .before .args .plan) (c .before .before .before .before .before .before .before .before .args .areas) (c .before .before .before .before .before .before .before .before .args .devices) (c .before .before .before .before .before .before .before .before .pre .0) in (few .0, few .1, omega (arith, few .2, c .before .before .before .if1 .taken), turn-sound (c .before .before .before .before .before .before .before .before .args .plan) (c .before .before .before .before .before .before .before .before .args .areas) (c .before .before .before .before .before .before .before .before .args .devices) (c .before .before .before .before .before .before .before .before .pre .0) (c .before .before .before .before .before .before .before .before .args .t2) (memoryOf (c .before .before .before .before .before .before .before .before .args .image .now) (c .before .before .before .before .before .before .before .before .args .store .now)) (c .before .before .before .before .before .loop .d) (coreIn (c .before .before .before .before .before .loop .areas) (c .before .before .before .before .before .loop .devices)) (ap (λ x. x .0) (c .before .before .before .before .before .loop .inv .3)) (c .before .before .before .if1 .taken), image-again _ _ _ (c .before .before .before .before .before .loop .inv .1) (c .before .before .before .before .before .before .before .before .pre .1), store-again _ _ _ (c .before .before .before .before .before .loop .inv .2) (c .before .before .before .before .before .before .before .before .pre .2))
+take-answer-requires c κs = let few = sound-counts (c .before .before .before .before .before .before .before .before .before .before .before .before .before .before .before .before .before .args .plan) (c .before .before .before .before .before .before .before .before .before .before .before .before .before .before .before .before .before .args .t3) (c .before .before .before .before .before .before .before .before .before .before .before .before .before .before .before .before .before .args .t4) (c .before .before .before .before .before .before .before .before .before .before .before .before .before .before .before .before .before .pre .0) in (few .0, lent-turn (c .before .before .before .before .before .before .before .before .before .before .before .before .before .before .before .before .before .args .plan) (few .1) (c .before .before .before .before .before .before .before .before .before .before .before .loop .d) (answerOf (c .before .before .before .before .before .before .before .before .before .before .before .before .before .before .before .before .before .args .t2) (c .before .before .before .before .before .before .before .before .before .before .before .loop .d)) (c .before .before .before .before .before .before .before .before .before .before .before .loop .areas) (c .before .before .before .before .before .before .before .before .before .before .before .loop .devices) (c .before .before .before .before .before .before .before .before .before .before .before .loop .dues) (c .before .before .before .before .before .before .before .before .before .before .before .loop .image) (c .before .before .before .before .before .before .before .before .before .before .before .loop .store) (turn-sound (c .before .before .before .before .before .before .before .before .before .before .before .before .before .before .before .before .before .args .plan) (c .before .before .before .before .before .before .before .before .before .before .before .before .before .before .before .before .before .args .t3) (c .before .before .before .before .before .before .before .before .before .before .before .before .before .before .before .before .before .args .t4) (c .before .before .before .before .before .before .before .before .before .before .before .before .before .before .before .before .before .pre .0) (c .before .before .before .before .before .before .before .before .before .before .before .before .before .before .before .before .before .args .t2) (memoryOf (c .before .before .before .before .before .before .before .before .before .before .before .before .before .before .before .before .before .args .image .now) (c .before .before .before .before .before .before .before .before .before .before .before .before .before .before .before .before .before .args .store .now)) (c .before .before .before .before .before .before .before .before .before .before .before .loop .d) (coreIn (c .before .before .before .before .before .before .before .before .before .before .before .loop .areas) (c .before .before .before .before .before .before .before .before .before .before .before .loop .devices)) (ap (λ x. x .0) (c .before .before .before .before .before .before .before .before .before .before .before .loop .inv .9)) (c .before .before .before .before .before .before .before .before .before .if1 .taken)) (image-again _ _ _ (c .before .before .before .before .before .before .before .before .before .before .before .loop .inv .4) (c .before .before .before .before .before .before .before .before .before .before .before .before .before .before .before .before .before .pre .1)) (store-again _ _ _ (c .before .before .before .before .before .before .before .before .before .before .before .loop .inv .5) (c .before .before .before .before .before .before .before .before .before .before .before .before .before .before .before .before .before .pre .2)) (c .before .before .before .before .before .before .before .before .before .before .before .loop .inv .10) _ _ _ (c .before .before .before .before .before .before .before .before .before .before .before .loop .inv .1) (c .before .before .before .before .before .before .before .before .before .before .before .loop .inv .2) (c .before .before .before .before .before .before .before .before .before .before .before .loop .inv .3) (c .before .before .before .before .before .before .before .runner .result) (c .before .before .before .before .before .before .before .runner .ensures .0))
 
--- src/answers.rt:75:9
+-- src/answers.rt:144:9
+mul-areas : tie.Need-mul-areas Inv-loop μ-loop
+mul-areas c = search needs
+
+-- src/answers.rt:144:9
+array-set-from-areas : tie.Need-array-set-from-areas Inv-loop μ-loop
+array-set-from-areas c = search needs
+
+-- src/answers.rt:145:9
+mul-dues : tie.Need-mul-dues Inv-loop μ-loop
+mul-dues c = search needs
+
+-- src/answers.rt:145:9
+array-set-from-dues : tie.Need-array-set-from-dues Inv-loop μ-loop
+array-set-from-dues c = search needs
+
+-- src/answers.rt:146:9
+mul-devices : tie.Need-mul-devices Inv-loop μ-loop
+mul-devices c = let few = sound-counts (c .before .before .before .before .before .before .before .before .before .before .before .before .before .before .before .before .before .before .before .before .before .before .before .before .before .args .plan) (c .before .before .before .before .before .before .before .before .before .before .before .before .before .before .before .before .before .before .before .before .before .before .before .before .before .args .t3) (c .before .before .before .before .before .before .before .before .before .before .before .before .before .before .before .before .before .before .before .before .before .before .before .before .before .args .t4) (c .before .before .before .before .before .before .before .before .before .before .before .before .before .before .before .before .before .before .before .before .before .before .before .before .before .pre .0) in omega (arith, few .2, c .before .before .before .before .before .before .before .before .before .before .before .before .before .before .before .before .before .if1 .taken)
+
+-- src/answers.rt:146:9
+array-set-from-devices : tie.Need-array-set-from-devices Inv-loop μ-loop
+array-set-from-devices c = let few = sound-counts (c .before .before .before .before .before .before .before .before .before .before .before .before .before .before .before .before .before .before .before .before .before .before .before .before .before .args .plan) (c .before .before .before .before .before .before .before .before .before .before .before .before .before .before .before .before .before .before .before .before .before .before .before .before .before .args .t3) (c .before .before .before .before .before .before .before .before .before .before .before .before .before .before .before .before .before .before .before .before .before .before .before .before .before .args .t4) (c .before .before .before .before .before .before .before .before .before .before .before .before .before .before .before .before .before .before .before .before .before .before .before .before .before .pre .0) in omega (arith, few .2, c .before .before .before .before .before .before .before .before .before .before .before .before .before .before .before .before .before .if1 .taken)
+
+-- src/answers.rt:147:9
 add-d : tie.Need-add-d Inv-loop μ-loop
-add-d c = search needs
+add-d c = let few = sound-counts (c .before .before .before .before .before .before .before .before .before .before .before .before .before .before .before .before .before .before .before .before .before .before .before .before .before .args .plan) (c .before .before .before .before .before .before .before .before .before .before .before .before .before .before .before .before .before .before .before .before .before .before .before .before .before .args .t3) (c .before .before .before .before .before .before .before .before .before .before .before .before .before .before .before .before .before .before .before .before .before .before .before .before .before .args .t4) (c .before .before .before .before .before .before .before .before .before .before .before .before .before .before .before .before .before .before .before .before .before .before .before .before .before .pre .0) in omega (arith, few .2, c .before .before .before .before .before .before .before .before .before .before .before .before .before .before .before .before .before .if1 .taken)
 
--- src/answers.rt:71:5
+-- src/answers.rt:124:5
 loop-less : tie.Need-loop-less Inv-loop μ-loop
 loop-less c = search needs
 
--- src/answers.rt:71:5
+-- src/answers.rt:124:5
 loop-again : tie.Need-loop-again Inv-loop μ-loop
-loop-again c =
-    let t = c .before .before .before .before .before .before .take-answer .ensures in (
-      omega (arith, c .before .before .before .before .before .before .before .before .before .before .if1 .taken),
-      omega (arith, c .before .before .before .before .before .before .before .before .before .before .before .before .loop .inv .1),
-      omega (arith, c .before .before .before .before .before .before .before .before .before .before .before .before .loop .inv .2),
-      (λ i. (t .0 i, memoryOf (t .1 .0 i) (t .1 .1 i)))
-          ∙ take-turn (c .before .before .before .before .before .before .before .before .before .before .before .before .before .before .before .args .plan) (c .before .before .before .before .before .before .before .before .before .before .before .before .before .before .before .args .t2) (lentTo (c .before .before .before .before .before .before .before .before .before .before .before .before .before .before .before .args .areas) (c .before .before .before .before .before .before .before .before .before .before .before .before .before .before .before .args .devices) (memoryOf (c .before .before .before .before .before .before .before .before .before .before .before .before .before .before .before .args .image .now) (c .before .before .before .before .before .before .before .before .before .before .before .before .before .before .before .args .store .now))) (c .before .before .before .before .before .before .before .before .before .before .before .before .loop .d) (coreIn (c .before .before .before .before .before .before .before .before .before .before .before .before .loop .areas) (c .before .before .before .before .before .before .before .before .before .before .before .before .loop .devices), memoryOf (c .before .before .before .before .before .before .before .before .before .before .before .before .loop .image) (c .before .before .before .before .before .before .before .before .before .before .before .before .loop .store)) (c .before .before .before .before .before .before .before .before .before .before .before .before .loop .inv .3),
-    )
+loop-again c = let few = sound-counts (c .before .before .before .before .before .before .before .before .before .before .before .before .before .before .before .before .before .before .before .before .before .before .before .before .before .args .plan) (c .before .before .before .before .before .before .before .before .before .before .before .before .before .before .before .before .before .before .before .before .before .before .before .before .before .args .t3) (c .before .before .before .before .before .before .before .before .before .before .before .before .before .before .before .before .before .before .before .before .before .before .before .before .before .args .t4) (c .before .before .before .before .before .before .before .before .before .before .before .before .before .before .before .before .before .before .before .before .before .before .before .before .before .pre .0) in let t = c .before .before .before .before .before .before .before .take-answer .ensures in let turn = core-turn (c .before .before .before .before .before .before .before .before .before .before .before .before .before .before .before .before .before .before .before .before .before .before .before .before .before .args .plan) (few .1) (c .before .before .before .before .before .before .before .before .before .before .before .before .before .before .before .before .before .before .before .loop .d) (answerOf (c .before .before .before .before .before .before .before .before .before .before .before .before .before .before .before .before .before .before .before .before .before .before .before .before .before .args .t2) (c .before .before .before .before .before .before .before .before .before .before .before .before .before .before .before .before .before .before .before .loop .d)) (c .before .before .before .before .before .before .before .before .before .before .before .before .before .before .before .before .before .before .before .loop .areas) (c .before .before .before .before .before .before .before .before .before .before .before .before .before .before .before .before .before .before .before .loop .devices) (c .before .before .before .before .before .before .before .before .before .before .before .before .before .before .before .before .before .before .before .loop .dues) (c .before .before .before .before .before .before .before .before .before .before .before .before .before .before .before .before .before .before .before .loop .image) (c .before .before .before .before .before .before .before .before .before .before .before .before .before .before .before .before .before .before .before .loop .store) (turn-sound (c .before .before .before .before .before .before .before .before .before .before .before .before .before .before .before .before .before .before .before .before .before .before .before .before .before .args .plan) (c .before .before .before .before .before .before .before .before .before .before .before .before .before .before .before .before .before .before .before .before .before .before .before .before .before .args .t3) (c .before .before .before .before .before .before .before .before .before .before .before .before .before .before .before .before .before .before .before .before .before .before .before .before .before .args .t4) (c .before .before .before .before .before .before .before .before .before .before .before .before .before .before .before .before .before .before .before .before .before .before .before .before .before .pre .0) (c .before .before .before .before .before .before .before .before .before .before .before .before .before .before .before .before .before .before .before .before .before .before .before .before .before .args .t2) (memoryOf (c .before .before .before .before .before .before .before .before .before .before .before .before .before .before .before .before .before .before .before .before .before .before .before .before .before .args .image .now) (c .before .before .before .before .before .before .before .before .before .before .before .before .before .before .before .before .before .before .before .before .before .before .before .before .before .args .store .now)) (c .before .before .before .before .before .before .before .before .before .before .before .before .before .before .before .before .before .before .before .loop .d) (coreIn (c .before .before .before .before .before .before .before .before .before .before .before .before .before .before .before .before .before .before .before .loop .areas) (c .before .before .before .before .before .before .before .before .before .before .before .before .before .before .before .before .before .before .before .loop .devices)) (ap (λ x. x .0) (c .before .before .before .before .before .before .before .before .before .before .before .before .before .before .before .before .before .before .before .loop .inv .9)) (c .before .before .before .before .before .before .before .before .before .before .before .before .before .before .before .before .before .if1 .taken)) (image-again _ _ _ (c .before .before .before .before .before .before .before .before .before .before .before .before .before .before .before .before .before .before .before .loop .inv .4) (c .before .before .before .before .before .before .before .before .before .before .before .before .before .before .before .before .before .before .before .before .before .before .before .before .before .pre .1)) (store-again _ _ _ (c .before .before .before .before .before .before .before .before .before .before .before .before .before .before .before .before .before .before .before .loop .inv .5) (c .before .before .before .before .before .before .before .before .before .before .before .before .before .before .before .before .before .before .before .before .before .before .before .before .before .pre .2)) (c .before .before .before .before .before .before .before .before .before .before .before .before .before .before .before .before .before .before .before .loop .inv .10) _ _ _ (c .before .before .before .before .before .before .before .before .before .before .before .before .before .before .before .before .before .before .before .loop .inv .1) (c .before .before .before .before .before .before .before .before .before .before .before .before .before .before .before .before .before .before .before .loop .inv .2) (c .before .before .before .before .before .before .before .before .before .before .before .before .before .before .before .before .before .before .before .loop .inv .3) (c .before .before .before .before .before .before .before .before .before .before .before .before .before .before .before .runner .result) (c .before .before .before .before .before .before .before .before .before .before .before .before .before .before .before .runner .ensures .0) (c .before .before .before .before .before .before .before .before .before .before .before .before .before .before .before .before .before .before .before .loop .inv .6) (c .before .before .before .before .before .before .before .before .before .before .before .before .before .before .before .before .before .before .before .loop .inv .7) (c .before .before .before .before .before .before .before .before .before .before .before .before .before .before .before .before .before .before .before .loop .inv .8) (omega (arith, few .2, c .before .before .before .before .before .before .before .before .before .before .before .before .before .before .before .before .before .if1 .taken)) (c .before .before .before .before .before .before .before .take-answer .result .area) (c .before .before .before .before .before .before .before .take-answer .result .due) (c .before .before .before .before .before .before .before .take-answer .result .device) (t .0) (t .1 .0) (t .1 .1 .0) in (omega (arith, c .before .before .before .before .before .before .before .before .before .before .before .before .before .before .before .before .before .if1 .taken), c .before .before .before .before .before .before .before .before .before .before .before .before .before .before .before .before .before .before .before .loop .inv .1, c .before .before .before .before .before .before .before .before .before .before .before .before .before .before .before .before .before .before .before .loop .inv .2, c .before .before .before .before .before .before .before .before .before .before .before .before .before .before .before .before .before .before .before .loop .inv .3, omega (arith, c .before .before .before .before .before .before .before .before .before .before .before .before .before .before .before .before .before .before .before .loop .inv .4), omega (arith, c .before .before .before .before .before .before .before .before .before .before .before .before .before .before .before .before .before .before .before .loop .inv .5), rw length-set (c .before .before .before .before .before .before .before .before .before .before .before .before .before .before .before .before .before .before .before .loop .inv .6), rw length-set (c .before .before .before .before .before .before .before .before .before .before .before .before .before .before .before .before .before .before .before .loop .inv .7), rw length-set (c .before .before .before .before .before .before .before .before .before .before .before .before .before .before .before .before .before .before .before .loop .inv .8), (λ i. (turn .0 i, memory-turn (c .before .before .before .before .before .before .before .before .before .before .before .before .before .before .before .before .before .before .before .before .before .before .before .before .before .args .plan) (few .1) (c .before .before .before .before .before .before .before .before .before .before .before .before .before .before .before .before .before .before .before .loop .d) (answerOf (c .before .before .before .before .before .before .before .before .before .before .before .before .before .before .before .before .before .before .before .before .before .before .before .before .before .args .t2) (c .before .before .before .before .before .before .before .before .before .before .before .before .before .before .before .before .before .before .before .loop .d)) (c .before .before .before .before .before .before .before .before .before .before .before .before .before .before .before .before .before .before .before .loop .areas) (c .before .before .before .before .before .before .before .before .before .before .before .before .before .before .before .before .before .before .before .loop .devices) (c .before .before .before .before .before .before .before .before .before .before .before .before .before .before .before .before .before .before .before .loop .dues) (c .before .before .before .before .before .before .before .before .before .before .before .before .before .before .before .before .before .before .before .loop .image) (c .before .before .before .before .before .before .before .before .before .before .before .before .before .before .before .before .before .before .before .loop .store) (turn-sound (c .before .before .before .before .before .before .before .before .before .before .before .before .before .before .before .before .before .before .before .before .before .before .before .before .before .args .plan) (c .before .before .before .before .before .before .before .before .before .before .before .before .before .before .before .before .before .before .before .before .before .before .before .before .before .args .t3) (c .before .before .before .before .before .before .before .before .before .before .before .before .before .before .before .before .before .before .before .before .before .before .before .before .before .args .t4) (c .before .before .before .before .before .before .before .before .before .before .before .before .before .before .before .before .before .before .before .before .before .before .before .before .before .pre .0) (c .before .before .before .before .before .before .before .before .before .before .before .before .before .before .before .before .before .before .before .before .before .before .before .before .before .args .t2) (memoryOf (c .before .before .before .before .before .before .before .before .before .before .before .before .before .before .before .before .before .before .before .before .before .before .before .before .before .args .image .now) (c .before .before .before .before .before .before .before .before .before .before .before .before .before .before .before .before .before .before .before .before .before .before .before .before .before .args .store .now)) (c .before .before .before .before .before .before .before .before .before .before .before .before .before .before .before .before .before .before .before .loop .d) (coreIn (c .before .before .before .before .before .before .before .before .before .before .before .before .before .before .before .before .before .before .before .loop .areas) (c .before .before .before .before .before .before .before .before .before .before .before .before .before .before .before .before .before .before .before .loop .devices)) (ap (λ x. x .0) (c .before .before .before .before .before .before .before .before .before .before .before .before .before .before .before .before .before .before .before .loop .inv .9)) (c .before .before .before .before .before .before .before .before .before .before .before .before .before .before .before .before .before .if1 .taken)) (image-again _ _ _ (c .before .before .before .before .before .before .before .before .before .before .before .before .before .before .before .before .before .before .before .loop .inv .4) (c .before .before .before .before .before .before .before .before .before .before .before .before .before .before .before .before .before .before .before .before .before .before .before .before .before .pre .1)) (store-again _ _ _ (c .before .before .before .before .before .before .before .before .before .before .before .before .before .before .before .before .before .before .before .loop .inv .5) (c .before .before .before .before .before .before .before .before .before .before .before .before .before .before .before .before .before .before .before .before .before .before .before .before .before .pre .2)) (c .before .before .before .before .before .before .before .before .before .before .before .before .before .before .before .before .before .before .before .loop .inv .10) _ _ _ (c .before .before .before .before .before .before .before .before .before .before .before .before .before .before .before .before .before .before .before .loop .inv .1) (c .before .before .before .before .before .before .before .before .before .before .before .before .before .before .before .before .before .before .before .loop .inv .2) (c .before .before .before .before .before .before .before .before .before .before .before .before .before .before .before .before .before .before .before .loop .inv .3) (c .before .before .before .before .before .before .before .before .before .before .before .before .before .before .before .runner .result) (c .before .before .before .before .before .before .before .before .before .before .before .before .before .before .before .runner .ensures .0) _ _ (t .1 .1 .1 .0) (t .1 .1 .1 .1) i)) ∙ take-turn (c .before .before .before .before .before .before .before .before .before .before .before .before .before .before .before .before .before .before .before .before .before .before .before .before .before .args .plan) (c .before .before .before .before .before .before .before .before .before .before .before .before .before .before .before .before .before .before .before .before .before .before .before .before .before .args .t2) (lentTo (c .before .before .before .before .before .before .before .before .before .before .before .before .before .before .before .before .before .before .before .before .before .before .before .before .before .args .t3) (c .before .before .before .before .before .before .before .before .before .before .before .before .before .before .before .before .before .before .before .before .before .before .before .before .before .args .t4) (memoryOf (c .before .before .before .before .before .before .before .before .before .before .before .before .before .before .before .before .before .before .before .before .before .before .before .before .before .args .image .now) (c .before .before .before .before .before .before .before .before .before .before .before .before .before .before .before .before .before .before .before .before .before .before .before .before .before .args .store .now))) (c .before .before .before .before .before .before .before .before .before .before .before .before .before .before .before .before .before .before .before .loop .d) (coreIn (c .before .before .before .before .before .before .before .before .before .before .before .before .before .before .before .before .before .before .before .loop .areas) (c .before .before .before .before .before .before .before .before .before .before .before .before .before .before .before .before .before .before .before .loop .devices), memoryOf (c .before .before .before .before .before .before .before .before .before .before .before .before .before .before .before .before .before .before .before .loop .image) (c .before .before .before .before .before .before .before .before .before .before .before .before .before .before .before .before .before .before .before .loop .store)) (c .before .before .before .before .before .before .before .before .before .before .before .before .before .before .before .before .before .before .before .loop .inv .9), turn .1)
 
--- src/answers.rt:57:1
+-- src/answers.rt:105:1
 same-length : tie.Need-same-length Inv-loop μ-loop
 same-length c = search needs
 
--- src/answers.rt:57:1
+-- src/answers.rt:105:1
 same-length-2 : tie.Need-same-length-2 Inv-loop μ-loop
 same-length-2 c = search needs
 
--- src/answers.rt:57:1
+-- src/answers.rt:105:1
 returns : tie.Need-returns Inv-loop μ-loop
-returns c =
-    let n : c .before .before .loop .d ≡ c .before .before .before .before .before .args .plan .«device_count» = omega (arith, c .if1 .left, c .before .before .loop .inv .0) in
-    let e = c .before .before .loop .inv .3 ∙ ap (λ k. both (takeAll (c .before .before .before .before .before .args .plan) (c .before .before .before .before .before .args .t2) k (lentTo (c .before .before .before .before .before .args .areas) (c .before .before .before .before .before .args .devices) (memoryOf (c .before .before .before .before .before .args .image .now) (c .before .before .before .before .before .args .store .now))))) n in
-    (ap (λ x. x .0) e, (ap (λ x. x .1 .image) e, ap (λ x. x .1 .store) e))
+returns c = let n : c .before .before .loop .d ≡ c .before .before .before .before .before .before .before .before .args .plan .«device_count» = omega (arith, c .if1 .left, c .before .before .loop .inv .0) in let e = c .before .before .loop .inv .9 ∙ ap (λ k. both (takeAll (c .before .before .before .before .before .before .before .before .args .plan) (c .before .before .before .before .before .before .before .before .args .t2) k (lentTo (c .before .before .before .before .before .before .before .before .args .t3) (c .before .before .before .before .before .before .before .before .args .t4) (memoryOf (c .before .before .before .before .before .before .before .before .args .image .now) (c .before .before .before .before .before .before .before .before .args .store .now))))) n in (ap (λ x. x .0) e, (c .before .before .loop .inv .10, (ap (λ x. x .1 .image) e, ap (λ x. x .1 .store) e)))
 
 pub first-half-spec : {M : Type 1} → statement M
 first-half-spec =
@@ -79,9 +140,26 @@ first-half-spec =
     Inv-loop
     μ-loop
     loop-holds
+    mul-device
+    array-copy-out-device
+    runner-requires
     mul-take-answer
     array-copy-out-take-answer
+    mul-take-answer-2
+    array-copy-out-take-answer-2
+    mul-take-answer-3
+    array-copy-out-take-answer-3
+    mul-take-answer-4
+    array-copy-out-take-answer-4
+    mul-take-answer-5
+    array-copy-out-take-answer-5
     take-answer-requires
+    mul-areas
+    array-set-from-areas
+    mul-dues
+    array-set-from-dues
+    mul-devices
+    array-set-from-devices
     add-d
     loop-less
     loop-again

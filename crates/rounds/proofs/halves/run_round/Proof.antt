@@ -1,5 +1,5 @@
-use lib.ListN.{length-map}
 use mathlib.Core.Path.{ap, _∙_, sym}
+use lib.ListN.{length-map}
 use Rattle.requests.specs.Effects.{memoryOf}
 use Rattle.rounds.specs.NeedLaws.{whole-areas, whole-devices, whole-memory}
 use Rattle.rounds.specs.AnswerLaws.{sound-counts}
@@ -13,33 +13,33 @@ use Rattle.rounds.proofs.close.close.Reads as close-reads
 use Rattle.rounds.proofs.picks.needed_devices.Reads as needed-devices-reads
 use Rattle.rounds.proofs.picks.second_half.Reads as second-half-reads
 
--- src/halves.rt:34:9
+-- src/halves.rt:37:9
 first-half-requires : tie.Need-first-half-requires
 first-half-requires c κs = search needs
 
--- src/halves.rt:37:9
+-- src/halves.rt:41:9
 needed-devices-requires : tie.Need-needed-devices-requires
-needed-devices-requires c κs = let few = sound-counts (c .before .before .before .before .before .before .before .before .before .before .before .args .plan) (c .before .before .before .before .before .before .before .before .before .before .before .args .areas) (c .before .before .before .before .before .before .before .before .before .before .before .args .devices) (c .before .before .before .before .before .before .before .before .before .before .before .pre .0) in few .0
+needed-devices-requires c κs = search needs
 
--- src/halves.rt:39:9
+-- src/halves.rt:43:9
 second-half-requires : tie.Need-second-half-requires
-second-half-requires c κs = let few = sound-counts (c .before .before .before .before .before .before .before .before .before .before .before .before .before .args .plan) (c .before .before .before .before .before .before .before .before .before .before .before .before .before .args .areas) (c .before .before .before .before .before .before .before .before .before .before .before .before .before .args .devices) (c .before .before .before .before .before .before .before .before .before .before .before .before .before .pre .0) in (few .1, few .2)
+second-half-requires c κs = let few = sound-counts (c .before .before .before .before .before .before .before .before .before .before .before .before .before .before .args .plan) (c .before .before .before .before .before .before .before .before .before .before .before .before .before .before .args .areas) (c .before .before .before .before .before .before .before .before .before .before .before .before .before .before .args .devices) (c .before .before .before .before .before .before .before .before .before .before .before .before .before .before .pre .0) in (few .1, few .2)
 
--- src/halves.rt:49:9
+-- src/halves.rt:53:9
 close-requires : tie.Need-close-requires
 close-requires c κs = search needs
 
--- src/halves.rt:20:1
+-- src/halves.rt:22:1
 same-length : tie.Need-same-length
 same-length c = search needs
 
--- src/halves.rt:20:1
+-- src/halves.rt:22:1
 same-length-2 : tie.Need-same-length-2
 same-length-2 c = search needs
 
--- src/halves.rt:20:1
+-- src/halves.rt:22:1
 returns : tie.Need-returns
-returns c = let few = sound-counts (c .before .before .before .before .before .before .before .before .before .before .before .before .before .before .before .before .before .args .plan) (c .before .before .before .before .before .before .before .before .before .before .before .before .before .before .before .before .before .args .areas) (c .before .before .before .before .before .before .before .before .before .before .before .before .before .before .before .before .before .args .devices) (c .before .before .before .before .before .before .before .before .before .before .before .before .before .before .before .before .before .pre .0) in (whole-areas (c .before .before .before .before .before .before .before .before .before .before .before .before .before .before .before .before .before .args .plan) (c .before .before .before .before .before .before .before .before .before .before .before .before .before .before .before .before .before .args .areas) (c .before .before .before .before .before .before .before .before .before .before .before .before .before .before .before .before .before .args .devices) (c .before .before .before .before .before .before .before .before .before .before .before .before .before .before .before .before .before .args .answers) (memoryOf (c .before .before .before .before .before .before .before .before .before .before .before .before .before .before .before .before .before .args .image .now) (c .before .before .before .before .before .before .before .before .before .before .before .before .before .before .before .before .before .args .store .now)) (few .1) (c .before .before .before .before .before .before .before .before .before .before .before .before .first-half .result .areas) (c .before .before .before .before .before .before .before .before .before .before .before .before .first-half .result .devices) (c .before .before .before .before .before .before .before .before .before .before .before .before .first-half .ensures .0) (c .before .before .before .before .before .needed-devices .result) (c .before .before .before .before .before .needed-devices .ensures) (c .before .before .before .second-half .result .areas) (c .before .before .before .second-half .result .devices) (c .before .before .before .second-half .ensures) _ (c .close .ensures), (whole-devices (c .before .before .before .before .before .before .before .before .before .before .before .before .before .before .before .before .before .args .plan) (c .before .before .before .before .before .before .before .before .before .before .before .before .before .before .before .before .before .args .areas) (c .before .before .before .before .before .before .before .before .before .before .before .before .before .before .before .before .before .args .devices) (c .before .before .before .before .before .before .before .before .before .before .before .before .before .before .before .before .before .args .answers) (memoryOf (c .before .before .before .before .before .before .before .before .before .before .before .before .before .before .before .before .before .args .image .now) (c .before .before .before .before .before .before .before .before .before .before .before .before .before .before .before .before .before .args .store .now)) (few .1) (c .before .before .before .before .before .before .before .before .before .before .before .before .first-half .result .areas) (c .before .before .before .before .before .before .before .before .before .before .before .before .first-half .result .devices) (c .before .before .before .before .before .before .before .before .before .before .before .before .first-half .ensures .0) (c .before .before .before .before .before .needed-devices .result) (c .before .before .before .before .before .needed-devices .ensures) (c .before .before .before .second-half .result .areas) (c .before .before .before .second-half .result .devices) (c .before .before .before .second-half .ensures) (sym (length-map (c .before .before .before .second-half .result .devices) _) ∙ c .before .before .before .second-half .ok .1 .1 .1 .0 .1 .0 .1), (c .before .before .before .before .before .before .before .before .before .before .before .before .first-half .ensures .1 .0 ∙ ap (λ m. m .image) (whole-memory (c .before .before .before .before .before .before .before .before .before .before .before .before .before .before .before .before .before .args .plan) (c .before .before .before .before .before .before .before .before .before .before .before .before .before .before .before .before .before .args .areas) (c .before .before .before .before .before .before .before .before .before .before .before .before .before .before .before .before .before .args .devices) (c .before .before .before .before .before .before .before .before .before .before .before .before .before .before .before .before .before .args .answers) (memoryOf (c .before .before .before .before .before .before .before .before .before .before .before .before .before .before .before .before .before .args .image .now) (c .before .before .before .before .before .before .before .before .before .before .before .before .before .before .before .before .before .args .store .now))), c .before .before .before .before .before .before .before .before .before .before .before .before .first-half .ensures .1 .1 ∙ ap (λ m. m .store) (whole-memory (c .before .before .before .before .before .before .before .before .before .before .before .before .before .before .before .before .before .args .plan) (c .before .before .before .before .before .before .before .before .before .before .before .before .before .before .before .before .before .args .areas) (c .before .before .before .before .before .before .before .before .before .before .before .before .before .before .before .before .before .args .devices) (c .before .before .before .before .before .before .before .before .before .before .before .before .before .before .before .before .before .args .answers) (memoryOf (c .before .before .before .before .before .before .before .before .before .before .before .before .before .before .before .before .before .args .image .now) (c .before .before .before .before .before .before .before .before .before .before .before .before .before .before .before .before .before .args .store .now))))))
+returns c = let few = sound-counts (c .before .before .before .before .before .before .before .before .before .before .before .before .before .before .before .before .before .before .args .plan) (c .before .before .before .before .before .before .before .before .before .before .before .before .before .before .before .before .before .before .args .areas) (c .before .before .before .before .before .before .before .before .before .before .before .before .before .before .before .before .before .before .args .devices) (c .before .before .before .before .before .before .before .before .before .before .before .before .before .before .before .before .before .before .pre .0) in (whole-areas (c .before .before .before .before .before .before .before .before .before .before .before .before .before .before .before .before .before .before .args .plan) (c .before .before .before .before .before .before .before .before .before .before .before .before .before .before .before .before .before .before .args .areas) (c .before .before .before .before .before .before .before .before .before .before .before .before .before .before .before .before .before .before .args .devices) (c .before .before .before .before .before .before .before .before .before .before .before .before .before .before .before .before .before .before .args .answers) (memoryOf (c .before .before .before .before .before .before .before .before .before .before .before .before .before .before .before .before .before .before .args .image .now) (c .before .before .before .before .before .before .before .before .before .before .before .before .before .before .before .before .before .before .args .store .now)) (few .1) (c .before .before .before .before .before .before .before .before .before .before .before .before .before .first-half .result .areas) (c .before .before .before .before .before .before .before .before .before .before .before .before .before .first-half .result .devices) (c .before .before .before .before .before .before .before .before .before .before .before .before .before .first-half .ensures .0) (c .before .before .before .before .before .before .before .before .before .before .before .before .before .first-half .result .dues) (c .before .before .before .before .before .before .before .before .before .before .before .before .before .first-half .ensures .1 .0) (c .before .before .before .before .before .needed-devices .result) (c .before .before .before .before .before .needed-devices .ensures) (c .before .before .before .second-half .result .areas) (c .before .before .before .second-half .result .devices) (c .before .before .before .second-half .ensures) _ (c .close .ensures), (whole-devices (c .before .before .before .before .before .before .before .before .before .before .before .before .before .before .before .before .before .before .args .plan) (c .before .before .before .before .before .before .before .before .before .before .before .before .before .before .before .before .before .before .args .areas) (c .before .before .before .before .before .before .before .before .before .before .before .before .before .before .before .before .before .before .args .devices) (c .before .before .before .before .before .before .before .before .before .before .before .before .before .before .before .before .before .before .args .answers) (memoryOf (c .before .before .before .before .before .before .before .before .before .before .before .before .before .before .before .before .before .before .args .image .now) (c .before .before .before .before .before .before .before .before .before .before .before .before .before .before .before .before .before .before .args .store .now)) (few .1) (c .before .before .before .before .before .before .before .before .before .before .before .before .before .first-half .result .areas) (c .before .before .before .before .before .before .before .before .before .before .before .before .before .first-half .result .devices) (c .before .before .before .before .before .before .before .before .before .before .before .before .before .first-half .ensures .0) (c .before .before .before .before .before .before .before .before .before .before .before .before .before .first-half .result .dues) (c .before .before .before .before .before .before .before .before .before .before .before .before .before .first-half .ensures .1 .0) (c .before .before .before .before .before .needed-devices .result) (c .before .before .before .before .before .needed-devices .ensures) (c .before .before .before .second-half .result .areas) (c .before .before .before .second-half .result .devices) (c .before .before .before .second-half .ensures) (sym (length-map (c .before .before .before .second-half .result .devices) _) ∙ c .before .before .before .second-half .ok .1 .1 .1 .0 .1 .0 .1), (c .before .before .before .before .before .before .before .before .before .before .before .before .before .first-half .ensures .1 .1 .0 ∙ ap (λ m. m .image) (whole-memory (c .before .before .before .before .before .before .before .before .before .before .before .before .before .before .before .before .before .before .args .plan) (c .before .before .before .before .before .before .before .before .before .before .before .before .before .before .before .before .before .before .args .areas) (c .before .before .before .before .before .before .before .before .before .before .before .before .before .before .before .before .before .before .args .devices) (c .before .before .before .before .before .before .before .before .before .before .before .before .before .before .before .before .before .before .args .answers) (memoryOf (c .before .before .before .before .before .before .before .before .before .before .before .before .before .before .before .before .before .before .args .image .now) (c .before .before .before .before .before .before .before .before .before .before .before .before .before .before .before .before .before .before .args .store .now))), c .before .before .before .before .before .before .before .before .before .before .before .before .before .first-half .ensures .1 .1 .1 ∙ ap (λ m. m .store) (whole-memory (c .before .before .before .before .before .before .before .before .before .before .before .before .before .before .before .before .before .before .args .plan) (c .before .before .before .before .before .before .before .before .before .before .before .before .before .before .before .before .before .before .args .areas) (c .before .before .before .before .before .before .before .before .before .before .before .before .before .before .before .before .before .before .args .devices) (c .before .before .before .before .before .before .before .before .before .before .before .before .before .before .before .before .before .before .args .answers) (memoryOf (c .before .before .before .before .before .before .before .before .before .before .before .before .before .before .before .before .before .before .args .image .now) (c .before .before .before .before .before .before .before .before .before .before .before .before .before .before .before .before .before .before .args .store .now))))))
 
 pub run-round-spec : {M : Type 1} → statement M
 run-round-spec =

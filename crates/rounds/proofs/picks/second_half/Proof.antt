@@ -1,49 +1,110 @@
-use Rattle.rounds.specs.PickLaws.{second-turn}
+use Prim.Native.Nat.{_-_, _≤_}
+use mathlib.Core.Path.{_≡_, refl, sym, ap, _∙_}
+use native.Mathlib.Omega.{arith}
+use lib.ListN.{length, length-set}
+use Rattle.machine.specs.Sound.{coreIn}
+use Rattle.rounds.specs.PickLaws.{start-turn, second-turn}
 use Rattle.rounds.specs.Picks.{needsLayout}
 use Rattle.rules.specs.Machine.{secondHalf}
-use Rattle.machine.specs.Sound.{coreIn}
-use native.Mathlib.Omega.{arith}
-use mathlib.Core.Path.{_≡_, refl, ap, _∙_}
-use Prim.Native.Nat.{_-_, _≤_}
 use borrow.Author.Needs.{needs}
 use Rattle.rounds.proofs.picks.second_half.Statement.{statement}
 use Rattle.rounds.proofs.picks.second_half.Tie as tie
 use Rattle.rounds.proofs.picks.second_half.Reads as reads
 use Rattle.rounds.proofs.picks.second_half.Lts as lts
-use Rattle.rounds.proofs.picks.start_device.Reads as start-device-reads
+use Rattle.rounds.proofs.picks.chosen.Reads as chosen-reads
+use Rattle.rounds.proofs.picks.pick_area.Reads as pick-area-reads
+use Rattle.rounds.proofs.picks.start_choice.Reads as start-choice-reads
 
 abbrev Inv-loop : tie.InvT-loop
-Inv-loop records count needs device-count areas₀ devices₀ d₀ areas devices d = (d ≤ device-count) × (coreIn areas devices ≡ secondHalf (needsLayout records count needs) d (coreIn areas₀ devices₀))
+Inv-loop records count needs device-count areas₀ devices₀ d₀ areas devices d = (d ≤ device-count) × (length areas ≡ 8) × (length devices ≡ 4) × (coreIn areas devices ≡ secondHalf (needsLayout records count needs) d (coreIn areas₀ devices₀))
 
 abbrev μ-loop : tie.MeasureT-loop
 μ-loop records count needs device-count areas₀ devices₀ d₀ areas devices d = device-count - d
 
--- src/picks.rt:202:5
+-- src/picks.rt:214:5
 loop-holds : tie.Need-loop-holds Inv-loop μ-loop
 unfolding secondHalf
-loop-holds c = (omega arith, refl)
+loop-holds c = (omega arith, c .good .1 .1 .1 .1 .0 .1 .0 .1, c .good .1 .1 .1 .1 .1 .0 .1 .0 .1, refl)
 
--- src/picks.rt:203:13
-start-device-requires : tie.Need-start-device-requires Inv-loop μ-loop
-start-device-requires c κs = (c .before .before .pre .0, omega (arith, c .before .before .pre .1, c .loop-test .taken))
+-- src/picks.rt:215:22
+mul-device : tie.Need-mul-device Inv-loop μ-loop
+mul-device c = search needs
 
--- src/picks.rt:206:9
+-- src/picks.rt:215:22
+array-copy-out-device : tie.Need-array-copy-out-device Inv-loop μ-loop
+array-copy-out-device c = search needs
+
+-- src/picks.rt:217:13
+pick-area-requires : tie.Need-pick-area-requires Inv-loop μ-loop
+pick-area-requires c κs = search needs
+
+-- src/picks.rt:219:13
+chosen-requires : tie.Need-chosen-requires Inv-loop μ-loop
+chosen-requires c κs = search needs
+
+-- src/picks.rt:220:40
+mul-start-choice : tie.Need-mul-start-choice Inv-loop μ-loop
+mul-start-choice c = search needs
+
+-- src/picks.rt:220:40
+array-copy-out-start-choice : tie.Need-array-copy-out-start-choice Inv-loop μ-loop
+array-copy-out-start-choice c = search needs
+
+-- src/picks.rt:220:13
+start-choice-requires : tie.Need-start-choice-requires Inv-loop μ-loop
+start-choice-requires c κs = search needs
+
+-- src/picks.rt:223:9
+mul-areas : tie.Need-mul-areas Inv-loop μ-loop
+mul-areas c = search needs
+
+-- src/picks.rt:223:9
+array-set-from-areas : tie.Need-array-set-from-areas Inv-loop μ-loop
+array-set-from-areas c = search needs
+
+-- src/picks.rt:224:9
+mul-devices : tie.Need-mul-devices Inv-loop μ-loop
+mul-devices c = search needs
+
+-- src/picks.rt:224:9
+array-set-from-devices : tie.Need-array-set-from-devices Inv-loop μ-loop
+array-set-from-devices c = search needs
+
+-- src/picks.rt:225:9
 add-d : tie.Need-add-d Inv-loop μ-loop
 add-d c = search needs
 
--- src/picks.rt:202:5
+-- src/picks.rt:214:5
 loop-less : tie.Need-loop-less Inv-loop μ-loop
 loop-less c = search needs
 
--- src/picks.rt:202:5
+-- src/picks.rt:214:5
 loop-again : tie.Need-loop-again Inv-loop μ-loop
-loop-again c = (omega arith, second-turn (needsLayout (c .before .before .before .before .before .args .records) (c .before .before .before .before .before .args .count) (c .before .before .before .before .before .args .needs)) (c .before .before .before .before .loop .d) _ _ _ (c .before .before .before .before .loop .inv .1) (c .before .before .start-device .ensures))
+loop-again c = (omega arith, rw length-set (c .before .before .before .before .before .before .before .before .loop .inv .1), rw length-set (c .before .before .before .before .before .before .before .before .loop .inv .2), second-turn (needsLayout (c .before .before .before .before .before .before .before .before .before .args .records) (c .before .before .before .before .before .before .before .before .before .args .count) (c .before .before .before .before .before .before .before .before .before .args .needs)) (c .before .before .before .before .before .before .before .before .loop .d) _ _ _ (c .before .before .before .before .before .before .before .before .loop .inv .3) (start-turn (c .before .before .before .before .before .before .before .before .loop .d) (c .before .before .before .before .before .before .before .before .loop .areas) (c .before .before .before .before .before .before .before .before .loop .devices) (c .before .before .before .before .before .before .before .before .loop .inv .1) (omega (arith, c .before .before .before .before .before .before .before .loop-test .taken, c .before .before .before .before .before .before .before .before .before .pre .1, c .before .before .before .before .before .before .before .before .loop .inv .2)) (c .before .before .before .before .before .before .before .before .before .args .records) (c .before .before .before .before .before .before .before .before .before .args .count) (c .before .before .before .before .before .before .before .before .before .pre .0) (c .before .before .before .before .before .before .before .before .before .args .needs) (c .before .before .before .before .before .pick-area .result) (c .before .before .before .before .before .pick-area .ensures) (c .before .before .before .before .chosen .result) (c .before .before .before .before .chosen .ensures .0) (c .before .before .start-choice .result) (c .before .before .start-choice .ensures)))
 
--- src/picks.rt:190:1
+-- src/picks.rt:202:1
 returns : tie.Need-returns Inv-loop μ-loop
-returns c = c .before .loop .inv .1 ∙ ap (λ n. secondHalf (needsLayout (c .before .before .args .records) (c .before .before .args .count) (c .before .before .args .needs)) n (coreIn (c .before .before .args .areas) (c .before .before .args .devices))) (omega (arith, c .before .loop .inv .0, c .loop-test .left))
+returns c = c .before .loop .inv .3 ∙ ap (λ n. secondHalf (needsLayout (c .before .before .args .records) (c .before .before .args .count) (c .before .before .args .needs)) n (coreIn (c .before .before .args .t5) (c .before .before .args .t6))) (omega (arith, c .before .loop .inv .0, c .loop-test .left))
 
 pub second-half-spec : {M : Type 1} → statement M
 second-half-spec =
     tie.close
-    (tie.spec Inv-loop μ-loop loop-holds start-device-requires add-d loop-less loop-again returns)
+    (tie.spec
+    Inv-loop
+    μ-loop
+    loop-holds
+    mul-device
+    array-copy-out-device
+    pick-area-requires
+    chosen-requires
+    mul-start-choice
+    array-copy-out-start-choice
+    start-choice-requires
+    mul-areas
+    array-set-from-areas
+    mul-devices
+    array-set-from-devices
+    add-d
+    loop-less
+    loop-again
+    returns)

@@ -1,0 +1,32 @@
+use borrow.Author.Needs.{needs}
+use Rattle.rounds.proofs.picks.start_choice.Statement.{statement}
+use Rattle.rounds.proofs.picks.start_choice.Tie as tie
+use Rattle.rounds.proofs.picks.start_choice.Reads as reads
+use Rattle.rounds.proofs.picks.start_choice.Lts as lts
+use Rattle.rounds.proofs.picks.start_job.Reads as start-job-reads
+
+-- src/picks.rt:193:25
+enum-told : tie.Need-enum-told
+enum-told c = search needs
+
+-- src/picks.rt:197:22
+enum-known-best : tie.Need-enum-known-best
+enum-known-best c = search needs
+
+-- src/picks.rt:197:45
+start-job-requires : tie.Need-start-job-requires
+start-job-requires c κs = search needs
+
+-- src/picks.rt:189:1
+returns : tie.Need-returns
+unfolding Rattle.rules.specs.Machine.best
+returns c = simp (c .enum-told .given .1)
+
+-- src/picks.rt:189:1
+returns-2 : tie.Need-returns-2
+unfolding Rattle.rules.specs.Machine.best
+returns-2 c = simp (← (c .start-job .ensures), c .before .before .best .given .1)
+
+pub start-choice-spec : {M : Type 1} → statement M
+start-choice-spec =
+    tie.close (tie.spec enum-told enum-known-best start-job-requires returns returns-2)
