@@ -1,14 +1,31 @@
 -- Questions 12 to 15 by the cases that the code tests.
 use Prim.Native.Nat.{ℕ}
-use mathlib.Core.Bool.{true, false, true≢false, false≢true}
-use mathlib.Core.Path.{_≡_, refl, sym}
+use mathlib.Core.Bool.{true, false, false≢true}
+use mathlib.Core.Path.{_≡_, refl, ap, _∙_}
+use native.Mathlib.Omega.{arith}
 use Rattle.arith.specs.FirstNo.{firstNo}
+use Rattle.memory.specs.Numbers.{admissionNumber, refusalNumber, refusal-some}
+use Rattle.memory.specs.declared.Admission.the-variants.{Accepted, Refused}
 use Rattle.memory.specs.declared.JobType.{JobType}
 use Rattle.memory.specs.declared.JobType.the-variants.{NoJob, Write, Read, Compare, Erase, BlankCheck, Lock}
+use Rattle.memory.specs.declared.Refusal.{Refusal}
 use Rattle.memory.specs.declared.Task.{Task}
 use Rattle.plan.specs.declared.records.Plan.{Plan}
-use Rattle.rules.specs.Admission.{isInside, isAligned, usesWindow, fitsWindow, onOneDevice, rangeQuestions}
+use Rattle.rules.specs.Admission.{isInside, isAligned, usesWindow, fitsWindow, ifAsked, onOneDevice, rangeQuestions}
 use Rattle.segment.specs.Segments.{isLock}
+use Rattle.admission.specs.declared.JobAnswer.{JobAnswer}
+
+-- a refused job has that number, and says nothing of retries
+pub refuses : (j : JobAnswer) (q : Refusal) → j ≡ record { answer = Refused q; retries = 0 } → (n : ℕ) → refusalNumber q ≡ n → (R : Type 0) →
+    (admissionNumber (j .answer) ≡ n) × (admissionNumber (j .answer) ≡ 0 → R)
+refuses j q e n h R =
+    let number = ap (λ (k : JobAnswer). admissionNumber (k .answer)) e in
+    (number ∙ h, λ z. absurd (omega (arith, refusal-some q, number, z)))
+
+-- an accepted one has r, those of its first segment
+pub accepts : (j : JobAnswer) (r : ℕ) → j ≡ record { answer = Accepted; retries = r } → (n : ℕ) → 0 ≡ n → (m : ℕ) → r ≡ m →
+    (admissionNumber (j .answer) ≡ n) × (admissionNumber (j .answer) ≡ 0 → j .retries ≡ m)
+accepts j r e n h m is = (ap (λ (k : JobAnswer). admissionNumber (k .answer)) e ∙ h, λ _. ap (λ (k : JobAnswer). k .retries) e ∙ is)
 
 -- a lock request uses no window
 lock-no-window : (k : JobType) → isLock k ≡ true → usesWindow k ≡ false
@@ -41,14 +58,10 @@ module _ (p : Plan) (a : ℕ) (t : Task) where
       range-unaligned e = simp (inside, job, e)
 
       module _ (aligned : isAligned p a t ≡ true) where
-        pub range-windowless : usesWindow (t .kind) ≡ false → 0 ≡ firstNo 12 (rangeQuestions p a t)
+        pub range-long : ifAsked (usesWindow (t .kind)) (fitsWindow p a t) ≡ false → 14 ≡ firstNo 12 (rangeQuestions p a t)
         unfolding firstNo
-        range-windowless e = simp (inside, job, aligned, e)
+        range-long e = simp (inside, job, aligned, e)
 
-        pub range-long : usesWindow (t .kind) ≡ true → fitsWindow p a t ≡ false → 14 ≡ firstNo 12 (rangeQuestions p a t)
+        pub range-fits : ifAsked (usesWindow (t .kind)) (fitsWindow p a t) ≡ true → 0 ≡ firstNo 12 (rangeQuestions p a t)
         unfolding firstNo
-        range-long w e = simp (inside, job, aligned, w, e)
-
-        pub range-fits : usesWindow (t .kind) ≡ true → fitsWindow p a t ≡ true → 0 ≡ firstNo 12 (rangeQuestions p a t)
-        unfolding firstNo
-        range-fits w e = simp (inside, job, aligned, w, e)
+        range-fits e = simp (inside, job, aligned, e)

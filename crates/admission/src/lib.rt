@@ -1,39 +1,63 @@
 // Questions 12 to 15 in code: a range of an area.
 ghost use mathlib.Core.Path.{_≡_};
-ghost use mathlib.Core.Bool.{true};
-ghost use Prim.Native.Nat.{_+_, _≤_, _<_};
+ghost use mathlib.Core.Bool.{true, _&&_};
+ghost use Prim.Native.Nat.{_+_, _-_, _≤_, _<_};
+ghost use lib.Dec.{leb};
 ghost use Rattle.arith.specs.FirstNo.{firstNo};
+ghost use Rattle.arith.specs.Multiples.{multiple};
 ghost use Rattle.memory.specs.Numbers.{admissionNumber};
-ghost use Rattle.admission.specs.RangeLaws.{Kept};
-ghost use Rattle.rules.specs.Admission.{isInside, startsOnUnit, endsOnUnit, isAligned, usesWindow, fitsWindow, lockTask, onOneDevice, rangeDevice, rangeQuestions};
+ghost use Rattle.memory.specs.declared.Admission.the-variants.{Accepted, Refused};
+ghost use Rattle.segment.specs.Mapping.{mapped};
+ghost use Rattle.segment.specs.Segments.{unitOf, segmentAt};
+ghost use Rattle.admission.specs.RangeLaws.{isFound, offsetOf, lastByte, backFrom};
+ghost use Rattle.rules.specs.Admission.{isInside, usesWindow, ifAsked, lockTask, onOneDevice, rangeDevice, rangeQuestions};
 use memory::Admission;
 use memory::JobType;
 use memory::LogicalAddress;
 use memory::Refusal;
 use memory::Task;
 use plan::number::is_multiple;
+use plan::records::AreaRecord;
 use plan::records::Plan;
 use plan::records::SubAreaRecord;
 use segment::Found;
+use segment::index_of;
 use segment::is_lock;
+use segment::locate;
 use segment::map_address;
 use segment::segment_at;
+use segment::segment_found;
 use segment::unit_of;
 
-// Question 12: is the range inside the area, and of at least one byte?
-pub fn is_inside(plan: Plan, area: usize, address: LogicalAddress, n: u32) -> bool
-    requires { ⌜ (plan .«sub_area_count» ≤ 32) × (area < 8) ⌝ }
-    ensures { λ r. ⌜ r ≡ isInside plan area address n ⌝ }
+// The answer to a job and, where it is accepted, how many retries its first segment may take: the door has found that segment.
+pub struct JobAnswer {
+    pub answer: Admission,
+    pub retries: u8,
+}
+
+impl JobAnswer {
+    pub fn refused(refusal: Refusal) -> JobAnswer
+        ensures { λ r. ⌜ r ≡ record { answer = Refused refusal; retries = 0 } ⌝ }
+    {
+        JobAnswer {
+            answer: Admission::Refused(refusal),
+            retries: 0,
+        }
+    }
+
+    fn accepted(retries: u8) -> JobAnswer
+        ensures { λ r. ⌜ r ≡ record { answer = Accepted; retries = retries } ⌝ }
+    {
+        JobAnswer {
+            answer: Admission::Accepted,
+            retries,
+        }
+    }
+}
+
+fn is_found(found: Found) -> bool
+    ensures { λ r. ⌜ r ≡ isFound found ⌝ }
 {
-    if n < 1 {
-        return false;
-    }
-    let record = plan.areas[area];
-    if address.0 < record.start.0 {
-        return false;
-    }
-    let last = (address.0 as u64) + (n as u64) - 1;
-    let found = map_address(plan, area, last);
     match found {
         Found::Outside => false,
         Found::At {
@@ -43,46 +67,100 @@ pub fn is_inside(plan: Plan, area: usize, address: LogicalAddress, n: u32) -> bo
     }
 }
 
-fn starts_on_unit(kind: JobType, sub_areas: [SubAreaRecord; 32], found: Found) -> bool
-    requires { ⌜ Kept found ⌝ }
-    ensures { λ r. ⌜ r ≡ startsOnUnit kind «sub_areas» found ⌝ }
+fn offset_of(found: Found) -> u64
+    ensures { λ r. ⌜ r ≡ offsetOf found ⌝ }
 {
     match found {
-        Found::Outside => false,
+        Found::Outside => 0,
+        Found::At {
+            sub_area: _,
+            offset,
+        } => offset,
+    }
+}
+
+// Where the last byte of a range lies: nowhere if the range has no byte, or begins before the area.
+fn last_byte(
+    sub_areas: [SubAreaRecord; 32],
+    count: usize,
+    start: LogicalAddress,
+    area: usize,
+    address: LogicalAddress,
+    n: u32,
+) -> Found
+    requires { ⌜ count ≤ 32 ⌝ }
+    ensures { λ r. ⌜ r ≡ lastByte «sub_areas» count (start .0) area (address .0) n ⌝ }
+{
+    if n < 1 {
+        return Found::Outside;
+    }
+    if address.0 < start.0 {
+        return Found::Outside;
+    }
+    let last = (address.0 as u64) + (n as u64) - 1;
+    locate(sub_areas, count, start, area, last)
+}
+
+// Question 12: is the range inside the area, and of at least one byte?
+pub fn is_inside(plan: Plan, area: usize, address: LogicalAddress, n: u32) -> bool
+    requires { ⌜ (plan .«sub_area_count» ≤ 32) × (area < 8) ⌝ }
+    ensures { λ r. ⌜ r ≡ isInside plan area address n ⌝ }
+{
+    let record = plan.areas[area];
+    let start = record.start;
+    let last = last_byte(plan.sub_areas, plan.sub_area_count, start, area, address, n);
+    is_found(last)
+}
+
+// The place so many bytes before one that was found, if it is in the same sub-area.
+fn back_from(found: Found, n: u64) -> Found
+    ensures { λ r. ⌜ r ≡ backFrom found n ⌝ }
+{
+    match found {
+        Found::Outside => Found::Outside,
         Found::At { sub_area, offset } => {
-            let unit = unit_of(kind, sub_areas[sub_area]);
-            is_multiple(unit as u64, offset)
+            if offset < n {
+                return Found::Outside;
+            }
+            Found::At {
+                sub_area,
+                offset: offset - n,
+            }
         }
     }
 }
 
-fn ends_on_unit(kind: JobType, sub_areas: [SubAreaRecord; 32], found: Found) -> bool
-    requires { ⌜ Kept found ⌝ }
-    ensures { λ r. ⌜ r ≡ endsOnUnit kind «sub_areas» found ⌝ }
+// Where the first byte of a range lies whose last was found. Most ranges lie in one sub-area, so a second lookup is rare.
+fn first_byte(plan: Plan, area: usize, task: Task, last: Found) -> Found
+    requires { ⌜ (plan .«sub_area_count» ≤ 32) × (area < 8) × (1 ≤ task .length) × (last ≡ mapped plan area (record { 0 = task .address .0 + task .length - 1 })) ⌝ }
+    ensures { λ r. ⌜ r ≡ mapped plan area (task .address) ⌝ }
 {
-    match found {
-        Found::Outside => false,
-        Found::At { sub_area, offset } => {
-            let unit = unit_of(kind, sub_areas[sub_area]);
-            is_multiple(unit as u64, offset + 1)
-        }
+    let near = back_from(last, (task.length as u64) - 1);
+    if is_found(near) {
+        return near;
     }
+    map_address(plan, area, task.address.0 as u64)
 }
 
-// Question 13: do start and end of the range lie on a unit?
-pub fn is_aligned(plan: Plan, area: usize, task: Task) -> bool
-    requires { ⌜ (plan .«sub_area_count» ≤ 32) × (area < 8) × (1 ≤ task .length) ⌝ }
-    ensures { λ r. ⌜ r ≡ isAligned plan area task ⌝ }
+// Question 13: do start and end of the range lie on a unit of the sub-areas they are in?
+fn is_aligned(
+    kind: JobType,
+    begins: SubAreaRecord,
+    first: Found,
+    ends: SubAreaRecord,
+    last: Found,
+) -> bool
+    requires { ⌜ offsetOf last ≤ 8589934591 ⌝ }
+    ensures { λ r. ⌜ r ≡ (multiple (unitOf kind begins) (offsetOf first) && multiple (unitOf kind ends) (offsetOf last + 1)) ⌝ }
 {
-    let kind = task.kind;
-    let sub_areas = plan.sub_areas;
-    let address = task.address.0 as u64;
-    let first = map_address(plan, area, address);
-    if !starts_on_unit(kind, sub_areas, first) {
+    let first_unit = unit_of(kind, begins);
+    let from = offset_of(first);
+    if !is_multiple(first_unit as u64, from) {
         return false;
     }
-    let last = map_address(plan, area, address + (task.length as u64) - 1);
-    ends_on_unit(kind, sub_areas, last)
+    let last_unit = unit_of(kind, ends);
+    let upto = offset_of(last);
+    is_multiple(last_unit as u64, upto + 1)
 }
 
 pub fn uses_window(kind: JobType) -> bool
@@ -99,13 +177,16 @@ pub fn uses_window(kind: JobType) -> bool
     }
 }
 
-// Question 14: is the range no longer than the area's window?
-fn fits_window(plan: Plan, area: usize, task: Task) -> bool
-    requires { ⌜ area < 8 ⌝ }
-    ensures { λ r. ⌜ r ≡ fitsWindow plan area task ⌝ }
+// Question 14: is the range, if its kind uses the window, no longer than that?
+fn fits_window(record: AreaRecord, task: Task) -> bool
+    ensures { λ r. ⌜ r ≡ ifAsked (usesWindow (task .kind)) (leb (task .length) («record» .window .length)) ⌝ }
 {
-    let record = plan.areas[area];
-    task.length <= record.window.length
+    let kind = task.kind;
+    if !uses_window(kind) {
+        return true;
+    }
+    let longest = record.window.length;
+    task.length <= longest
 }
 
 fn lock_task(address: LogicalAddress, n: u32) -> Task
@@ -148,29 +229,37 @@ pub fn on_one_device(plan: Plan, area: usize, address: LogicalAddress, n: u32) -
 }
 
 // Questions 12 to 15, in their order.
-pub fn range_admission(plan: Plan, area: usize, task: Task) -> Admission
+pub fn range_admission(plan: Plan, area: usize, task: Task) -> JobAnswer
     requires { ⌜ (plan .«sub_area_count» ≤ 32) × (area < 8) ⌝ }
-    ensures { λ r. ⌜ admissionNumber r ≡ firstNo 12 (rangeQuestions plan area task) ⌝ }
+    ensures { λ r. ⌜ admissionNumber (r .answer) ≡ firstNo 12 (rangeQuestions plan area task) ⌝ }
+    ensures { λ r. ⌜ (admissionNumber (r .answer) ≡ 0 → r .retries ≡ segmentAt plan area task 0 .retries) ⌝ }
 {
+    let record = plan.areas[area];
+    let start = record.start;
     let address = task.address;
-    if !is_inside(plan, area, address, task.length) {
-        return Admission::Refused(Refusal::Range);
+    let n = task.length;
+    let last = last_byte(plan.sub_areas, plan.sub_area_count, start, area, address, n);
+    if !is_found(last) {
+        return JobAnswer::refused(Refusal::Range);
     }
     let kind = task.kind;
     if is_lock(kind) {
-        if !on_one_device(plan, area, address, task.length) {
-            return Admission::Refused(Refusal::SeveralDevices);
+        if !on_one_device(plan, area, address, n) {
+            return JobAnswer::refused(Refusal::SeveralDevices);
         }
-        return Admission::Accepted;
+        return JobAnswer::accepted(0);
     }
-    if !is_aligned(plan, area, task) {
-        return Admission::Refused(Refusal::Alignment);
+    let first = first_byte(plan, area, task, last);
+    let i = index_of(first);
+    let begins = plan.sub_areas[i];
+    let j = index_of(last);
+    let ends = plan.sub_areas[j];
+    if !is_aligned(kind, begins, first, ends, last) {
+        return JobAnswer::refused(Refusal::Alignment);
     }
-    if !uses_window(kind) {
-        return Admission::Accepted;
+    if !fits_window(record, task) {
+        return JobAnswer::refused(Refusal::WindowLength);
     }
-    if !fits_window(plan, area, task) {
-        return Admission::Refused(Refusal::WindowLength);
-    }
-    Admission::Accepted
+    let segment = segment_found(task, 0, begins, first);
+    JobAnswer::accepted(segment.retries)
 }

@@ -1,21 +1,53 @@
 -- The questions of the calls by the cases that the code takes apart.
 use Prim.Native.Nat.{ℕ, _≤_, _<_}
-use mathlib.Core.Bool.{true, false}
-use mathlib.Core.List.{List}
+use mathlib.Core.Bool.{Bool, true, false}
+use mathlib.Core.List.{List, _∷_}
 use mathlib.Core.Path.{_≡_}
 use borrow.Author.Tests.{le-leb, lt-leb}
-use lib.Dec.{leb, eqb}
+use lib.Dec.{ltb, leb, eqb}
 use lib.ListN.{length}
 use Rattle.arith.specs.Cases.{pick}
 use Rattle.arith.specs.FirstNo.{firstNo}
 use Rattle.arith.specs.Plain.{and-plain}
+use Rattle.memory.specs.declared.Task.{Task}
 use Rattle.plan.specs.Questions.{lengthSum}
 use Rattle.plan.specs.SizeLaws.{counts}
 use Rattle.plan.specs.declared.records.Plan.{Plan}
-use Rattle.rules.specs.Admission.{imageFits, storeReaches, roundNumber}
+use Rattle.rules.specs.Admission.{rangeQuestions, jobQuestions, imageFits, storeReaches, roundNumber}
+use Rattle.rules.specs.Machine.{Core, isPending}
+use Rattle.state.specs.Fresh.{noJob}
 use Rattle.state.specs.declared.Area.{Area}
 use Rattle.state.specs.declared.Device.{Device}
-use Rattle.machine.specs.Sound.{isSound}
+use Rattle.state.specs.declared.DeviceState.the-variants.{Free}
+use Rattle.machine.specs.Sound.{jobIn, stateIn, isSound}
+
+-- the jobs alone: a cancel and a job are asked nothing of what the devices do; and the devices alone, for a release
+abbrev pub jobsAlone : List Area → Core
+jobsAlone areas = record { jobs = jobIn areas; devices = λ _. Free }
+
+abbrev pub devicesAlone : List Device → Core
+devicesAlone devices = record { jobs = λ _. noJob; devices = stateIn devices }
+
+-- questions 9 to 11 answered "yes" leave the questions of the range
+pub job-number : (sound : Bool) (p : Plan) (c : Core) (a : ℕ) (t : Task) → sound ≡ true → ltb a (p .«area_count») ≡ true → isPending (c .jobs a) ≡ false →
+    firstNo 12 (rangeQuestions p a t) ≡ firstNo 9 (sound ∷ jobQuestions p c a t)
+unfolding firstNo jobQuestions
+job-number sound p c a t e f g = rw (e, f, g)
+
+-- one of them answered "no"
+module _ (p : Plan) (c : Core) (a : ℕ) (t : Task) where
+  pub job-unsound : (sound : Bool) → sound ≡ false → 9 ≡ firstNo 9 (sound ∷ jobQuestions p c a t)
+  unfolding firstNo jobQuestions
+  job-unsound sound e = rw e
+
+  module _ (sound : Bool) (yes : sound ≡ true) where
+    pub job-unknown : ltb a (p .«area_count») ≡ false → 10 ≡ firstNo 9 (sound ∷ jobQuestions p c a t)
+    unfolding firstNo jobQuestions
+    job-unknown e = rw (yes, e)
+
+    pub job-busy : ltb a (p .«area_count») ≡ true → isPending (c .jobs a) ≡ true → 11 ≡ firstNo 9 (sound ∷ jobQuestions p c a t)
+    unfolding firstNo jobQuestions
+    job-busy e f = rw (yes, e, f)
 
 -- a sound state has no more devices than the array holds
 pub sound-devices : (p : Plan) (areas : List Area) (devices : List Device) → isSound p areas devices ≡ true → p .«device_count» ≤ 4

@@ -2,21 +2,19 @@
 -- is our choice: it asks just what the code of a round rests on.
 use Prim.Native.Nat.{ℕ, _+_, _≤_, _<_}
 use mathlib.Core.Bool.{Bool, true, false, not, _&&_}
-use mathlib.Core.List.{List, _∷_}
+use mathlib.Core.List.{List}
 use mathlib.Core.Path.{_≡_}
 use lib.Dec.{ltb, leb, eqb}
 use lib.ListN.{getD}
 use borrow.Author.Tests.{eq-eqb, ne-eqb, le-leb, lt-leb, lt-ltb, le-ltb}
 use Rattle.arith.specs.Bounded.{every}
-use Rattle.arith.specs.FirstNo.{firstNo}
 use Rattle.arith.specs.Plain.{and-plain}
-use Rattle.memory.specs.declared.Task.{Task}
 use Rattle.plan.specs.Questions.{areaOf, deviceOf, lengthSum, countsFit}
 use Rattle.plan.specs.SizeLaws.{counts}
 use Rattle.plan.specs.declared.records.AreaRecord.{AreaRecord}
 use Rattle.plan.specs.declared.records.DeviceRecord.{DeviceRecord}
 use Rattle.plan.specs.declared.records.Plan.{Plan}
-use Rattle.rules.specs.Admission.{usesWindow, ifAsked, rangeQuestions, jobQuestions}
+use Rattle.rules.specs.Admission.{usesWindow, ifAsked}
 use Rattle.rules.specs.Machine.{Core, isPending}
 use Rattle.segment.specs.Segments.{isLock, segmentAt}
 use Rattle.segment.specs.declared.Segment.{Segment}
@@ -87,13 +85,6 @@ unfolding isSound
 sound-few p areas devices e =
     let few = counts _ _ _ ((simp and-plain at e) .0) in
     (few .1 .0 .1, few .1 .1 .1)
-
--- questions 9 to 11 answered "yes" leave the questions of the range
-pub job-number : (p : Plan) (areas : List Area) (devices : List Device) (a : ℕ) (t : Task) → isSound p areas devices ≡ true →
-    ltb a (p .«area_count») ≡ true → isPending (jobIn areas a) ≡ false →
-    firstNo 12 (rangeQuestions p a t) ≡ firstNo 9 (isSound p areas devices ∷ jobQuestions p (coreIn areas devices) a t)
-unfolding firstNo jobQuestions
-job-number p areas devices a t e f g = rw (e, f, g)
 
 -- the test by the cases that the code takes apart
 module _ (n w d : ℕ) (j : Job) (s : Segment) where

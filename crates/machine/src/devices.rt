@@ -1,9 +1,10 @@
 // What a device does for an area.
 ghost use mathlib.Core.Path.{_≡_};
 ghost use Prim.Native.Nat.{_≤_, _<_};
+ghost use Rattle.arith.specs.Bounded.{some};
 ghost use Rattle.rules.specs.Layout.{layoutOf};
 ghost use Rattle.rules.specs.Admission.{holdsLock};
-ghost use Rattle.rules.specs.Machine.{begun, isOwn, waitOf, cancel};
+ghost use Rattle.rules.specs.Machine.{begunWith, isOwn, waitOf, cancel};
 ghost use Rattle.machine.specs.Sound.{jobIn, stateIn, coreIn};
 ghost use Rattle.machine.specs.DeviceLaws.{runsFor};
 use jobs::begun;
@@ -42,8 +43,24 @@ fn runs_for(state: DeviceState, area: usize) -> bool
     }
 }
 
-// Does the area's own request run?
-pub fn area_runs(plan: Plan, areas: [Area; 8], devices: [Device; 4], area: usize) -> bool
+// Does a device run a request of the area?
+pub fn runs_somewhere(devices: [Device; 4], area: usize) -> bool
+    ensures { λ r. ⌜ r ≡ some (λ d. runsFor area (stateIn devices d)) 4 ⌝ }
+{
+    let mut d = 0;
+    while d < 4 {
+        let device = devices[d];
+        let state = device.state;
+        if runs_for(state, area) {
+            return true;
+        }
+        d += 1;
+    }
+    false
+}
+
+// Does the device that the area's job needs run its request?
+fn request_runs(plan: Plan, areas: [Area; 8], devices: [Device; 4], area: usize) -> bool
     requires { ⌜ (plan .«sub_area_count» ≤ 32) × (area < 8) ⌝ }
     ensures { λ r. ⌜ r ≡ isOwn (waitOf (layoutOf plan) (coreIn areas devices) area) ⌝ }
 {
@@ -53,6 +70,17 @@ pub fn area_runs(plan: Plan, areas: [Area; 8], devices: [Device; 4], area: usize
     let segment = segment_at(plan, area, task, job.processed);
     let state = state_on(devices, segment.device as usize);
     runs_for(state, area)
+}
+
+// Does the area's own request run? Where no device runs one, the segment that is due needs no lookup.
+fn area_runs(plan: Plan, areas: [Area; 8], devices: [Device; 4], area: usize) -> bool
+    requires { ⌜ (plan .«sub_area_count» ≤ 32) × (area < 8) ⌝ }
+    ensures { λ r. ⌜ r ≡ isOwn (waitOf (layoutOf plan) (coreIn areas devices) area) ⌝ }
+{
+    if !runs_somewhere(devices, area) {
+        return false;
+    }
+    request_runs(plan, areas, devices, area)
 }
 
 // Is the device locked for the area?
@@ -67,15 +95,14 @@ pub fn holds_lock(devices: [Device; 4], device: usize, area: usize) -> bool
     }
 }
 
-// The area's job after an accepted task.
-pub fn begun_job(plan: Plan, areas: [Area; 8], area: usize, task: Task) -> Job
-    requires { ⌜ (plan .«sub_area_count» ≤ 32) × (area < 8) ⌝ }
-    ensures { λ r. ⌜ r ≡ begun (layoutOf plan) area task (jobIn areas area) ⌝ }
+// The area's job after an accepted task, whose first segment may take so many retries.
+pub fn begun_job(areas: [Area; 8], area: usize, task: Task, retries: u8) -> Job
+    requires { ⌜ area < 8 ⌝ }
+    ensures { λ r. ⌜ r ≡ begunWith retries task (jobIn areas area) ⌝ }
 {
-    let first = segment_at(plan, area, task, 0);
     let entry = areas[area];
     let job = entry.job;
-    begun(task, first.retries, job)
+    begun(task, retries, job)
 }
 
 // The area's job after a cancel: over at once, unless its request runs.

@@ -8,12 +8,14 @@ ghost use Rattle.arith.specs.FirstNo.{firstNo};
 ghost use Rattle.memory.specs.Numbers.{admissionNumber};
 ghost use Rattle.rules.specs.Admission.{infoQuestions, cancelQuestions, memoryInfoQuestions, jobQuestions, releaseQuestions, imageFits, storeReaches, roundNumber};
 ghost use Rattle.plan.specs.Questions.{countsFit};
-ghost use Rattle.machine.specs.Sound.{isSound, jobIn, coreIn};
+ghost use Rattle.segment.specs.Segments.{segmentAt};
+ghost use Rattle.machine.specs.QuestionLaws.{jobsAlone, devicesAlone};
+ghost use Rattle.machine.specs.Sound.{isSound, jobIn};
 ghost use Rattle.machine.specs.Dues.{Due, DueIfSound};
 use crate::devices::holds_lock;
 use crate::dues::due_segments;
 use crate::dues::states_fit;
-use crate::soundness::is_sound;
+use admission::JobAnswer;
 use admission::is_inside;
 use admission::on_one_device;
 use admission::range_admission;
@@ -31,11 +33,12 @@ use segment::no_segment;
 use state::Area;
 use state::Device;
 
+// Whether the state is sound, question 9, is asked by the caller, who has it whole: to pass it on would cost a copy.
 // 9, 10: a query.
-pub fn info_admission(plan: Plan, areas: [Area; 8], devices: [Device; 4], area: usize) -> Admission
-    ensures { λ r. ⌜ admissionNumber r ≡ firstNo 9 (isSound plan areas devices ∷ infoQuestions plan area) ⌝ }
+pub fn info_admission(sound: bool, plan: Plan, area: usize) -> Admission
+    ensures { λ r. ⌜ admissionNumber r ≡ firstNo 9 (sound ∷ infoQuestions plan area) ⌝ }
 {
-    if !is_sound(plan, areas, devices) {
+    if !sound {
         return Admission::Refused(Refusal::Unsound);
     }
     if plan.area_count <= area {
@@ -45,16 +48,11 @@ pub fn info_admission(plan: Plan, areas: [Area; 8], devices: [Device; 4], area: 
 }
 
 // 9, 10, 12: memory info, with length 1.
-pub fn memory_admission(
-    plan: Plan,
-    areas: [Area; 8],
-    devices: [Device; 4],
-    area: usize,
-    address: LogicalAddress,
-) -> Admission
-    ensures { λ r. ⌜ admissionNumber r ≡ firstNo 9 (isSound plan areas devices ∷ memoryInfoQuestions plan area address) ⌝ }
+pub fn memory_admission(sound: bool, plan: Plan, area: usize, address: LogicalAddress) -> Admission
+    requires { ⌜ (sound ≡ true → (plan .«area_count» ≤ 8) × (plan .«sub_area_count» ≤ 32)) ⌝ }
+    ensures { λ r. ⌜ admissionNumber r ≡ firstNo 9 (sound ∷ memoryInfoQuestions plan area address) ⌝ }
 {
-    if !is_sound(plan, areas, devices) {
+    if !sound {
         return Admission::Refused(Refusal::Unsound);
     }
     if plan.area_count <= area {
@@ -67,15 +65,11 @@ pub fn memory_admission(
 }
 
 // 9, 10, 17: a cancel.
-pub fn cancel_admission(
-    plan: Plan,
-    areas: [Area; 8],
-    devices: [Device; 4],
-    area: usize,
-) -> Admission
-    ensures { λ r. ⌜ admissionNumber r ≡ firstNo 9 (isSound plan areas devices ∷ cancelQuestions plan (coreIn areas devices) area) ⌝ }
+pub fn cancel_admission(sound: bool, plan: Plan, areas: [Area; 8], area: usize) -> Admission
+    requires { ⌜ (sound ≡ true → (plan .«area_count» ≤ 8) × (plan .«sub_area_count» ≤ 32)) ⌝ }
+    ensures { λ r. ⌜ admissionNumber r ≡ firstNo 9 (sound ∷ cancelQuestions plan (jobsAlone areas) area) ⌝ }
 {
-    if !is_sound(plan, areas, devices) {
+    if !sound {
         return Admission::Refused(Refusal::Unsound);
     }
     if plan.area_count <= area {
@@ -91,40 +85,43 @@ pub fn cancel_admission(
 
 // 9 to 15: one of the five jobs, or a lock request.
 pub fn job_admission(
+    sound: bool,
     plan: Plan,
     areas: [Area; 8],
-    devices: [Device; 4],
     area: usize,
     task: Task,
-) -> Admission
-    ensures { λ r. ⌜ admissionNumber r ≡ firstNo 9 (isSound plan areas devices ∷ jobQuestions plan (coreIn areas devices) area task) ⌝ }
+) -> JobAnswer
+    requires { ⌜ (sound ≡ true → (plan .«area_count» ≤ 8) × (plan .«sub_area_count» ≤ 32)) ⌝ }
+    ensures { λ r. ⌜ admissionNumber (r .answer) ≡ firstNo 9 (sound ∷ jobQuestions plan (jobsAlone areas) area task) ⌝ }
+    ensures { λ r. ⌜ (admissionNumber (r .answer) ≡ 0 → r .retries ≡ segmentAt plan area task 0 .retries) ⌝ }
 {
-    if !is_sound(plan, areas, devices) {
-        return Admission::Refused(Refusal::Unsound);
+    if !sound {
+        return JobAnswer::refused(Refusal::Unsound);
     }
     if plan.area_count <= area {
-        return Admission::Refused(Refusal::UnknownArea);
+        return JobAnswer::refused(Refusal::UnknownArea);
     }
     let entry = areas[area];
     let job = entry.job;
     if is_pending(job) {
-        return Admission::Refused(Refusal::Busy);
+        return JobAnswer::refused(Refusal::Busy);
     }
     range_admission(plan, area, task)
 }
 
 // 9, 10, 12, 15, 16: a release.
 pub fn release_admission(
+    sound: bool,
     plan: Plan,
-    areas: [Area; 8],
     devices: [Device; 4],
     area: usize,
     address: LogicalAddress,
     length: u32,
 ) -> Admission
-    ensures { λ r. ⌜ admissionNumber r ≡ firstNo 9 (isSound plan areas devices ∷ releaseQuestions plan (coreIn areas devices) area address length) ⌝ }
+    requires { ⌜ (sound ≡ true → (plan .«area_count» ≤ 8) × (plan .«sub_area_count» ≤ 32)) ⌝ }
+    ensures { λ r. ⌜ admissionNumber r ≡ firstNo 9 (sound ∷ releaseQuestions plan (devicesAlone devices) area address length) ⌝ }
 {
-    if !is_sound(plan, areas, devices) {
+    if !sound {
         return Admission::Refused(Refusal::Unsound);
     }
     if plan.area_count <= area {

@@ -12,7 +12,7 @@ use native.Mathlib.Omega.{arith}
 use borrow.Author.Tests.{ltb-true, eq-eqb, ne-eqb}
 use lib.Dec.{eqb}
 use lib.ListN.{length}
-use Rattle.arith.specs.FirstNo.{none-elim}
+use Rattle.arith.specs.FirstNo.{firstNo, none-elim}
 use Rattle.arith.specs.Parts.{upd-same}
 use Rattle.memory.specs.Numbers.{statusNumber, admissionNumber, refusal-some}
 use Rattle.memory.specs.declared.Admission.{Admission}
@@ -20,12 +20,14 @@ use Rattle.memory.specs.declared.Admission.the-variants.{Refused}
 use Rattle.memory.specs.declared.Refusal.{Refusal}
 use Rattle.memory.specs.declared.LogicalAddress.{LogicalAddress}
 use Rattle.memory.specs.declared.Task.{Task}
-use Rattle.machine.specs.DeviceLaws.{lock-known}
+use Rattle.machine.specs.DeviceLaws.{begun-first, lock-known}
+use Rattle.machine.specs.QuestionLaws.{jobsAlone, devicesAlone}
 use Rattle.machine.specs.Sound.{jobIn, sound-few, isSound}
 use Rattle.rounds.specs.Close.{waitsIn, areasAfter, devicesAfter, halvesOf}
 use Rattle.rules.specs.Admission.{isKnown, rangeDevice, jobQuestions, releaseQuestions, cancelQuestions, infoQuestions, memoryInfoQuestions, imageFits, storeReaches, roundNumber}
 use Rattle.rules.specs.Layout.{layoutOf}
-use Rattle.rules.specs.Machine.{begun, begin, cancel, release}
+use Rattle.rules.specs.Machine.{begunWith, begin, cancel, release}
+use Rattle.segment.specs.Segments.{segmentAt}
 use Rattle.rules.specs.Queries.{jobInfoOf, noMemoryInfo, memoryInfoOf}
 use Rattle.state.specs.Fresh.{noWaits}
 use Rattle.state.specs.declared.DeviceState.the-variants.{Free}
@@ -37,6 +39,29 @@ use Rattle.manager.specs.declared.Manager.{Manager}
 -- a call that is refused, with that number
 pub refused-some : (x : Admission) (q : Refusal) → x ≡ Refused q → (n : ℕ) → admissionNumber x ≡ n → eqb n 0 ≡ false
 refused-some x q e n f = ne-eqb n 0 (λ z. omega (arith, refusal-some q, ap admissionNumber e, f, z))
+
+-- the number n of each call, with the answer to question 9
+module _ (m : Manager) (a : ℕ) (sound : Bool) (is : sound ≡ isSound (m .plan) (m .areas) (m .devices)) (n : ℕ) where
+  pub job-number : (t : Task) → n ≡ firstNo 9 (sound ∷ jobQuestions (m .plan) (jobsAlone (m .areas)) a t) → n ≡ jobNumberOf m a t
+  unfolding jobNumberOf jobQuestions
+  job-number t e = rw is at e
+
+  pub release-number : (address : LogicalAddress) (l : ℕ) → n ≡ firstNo 9 (sound ∷ releaseQuestions (m .plan) (devicesAlone (m .devices)) a address l) →
+      n ≡ releaseNumberOf m a address l
+  unfolding releaseNumberOf releaseQuestions
+  release-number address l e = rw is at e
+
+  pub cancel-number : n ≡ firstNo 9 (sound ∷ cancelQuestions (m .plan) (jobsAlone (m .areas)) a) → n ≡ cancelNumberOf m a
+  unfolding cancelNumberOf cancelQuestions
+  cancel-number e = rw is at e
+
+  pub info-number : n ≡ firstNo 9 (sound ∷ infoQuestions (m .plan) a) → n ≡ infoNumberOf m a
+  unfolding infoNumberOf
+  info-number e = rw is at e
+
+  pub memory-number : (address : LogicalAddress) → n ≡ firstNo 9 (sound ∷ memoryInfoQuestions (m .plan) a address) → n ≡ memoryInfoNumberOf m a address
+  unfolding memoryInfoNumberOf
+  memory-number address e = rw is at e
 
 -- an accepted call is of an area and a plan that the arrays hold
 module _ (m : Manager) (a : ℕ) where
@@ -81,12 +106,12 @@ module _ (m : Manager) (a : ℕ) where
   unfolding afterJob
   job-refused t e = rw e
 
-  pub job-accepted : (t : Task) (j : Job) (w : Waits) → j ≡ begun (layoutOf (m .plan)) a t (jobIn (m .areas) a) → w ≡ noWaits → jobNumberOf m a t ≡ 0 →
-      withArea a j w m ≡ afterJob m a t
+  pub job-accepted : (t : Task) (j : Job) (w : Waits) (r : ℕ) → j ≡ begunWith r t (jobIn (m .areas) a) → r ≡ segmentAt (m .plan) a t 0 .retries → w ≡ noWaits →
+      jobNumberOf m a t ≡ 0 → withArea a j w m ≡ afterJob m a t
   unfolding afterJob begin
-  job-accepted t j w is none e =
+  job-accepted t j w r is first none e =
       rw (eq-eqb (jobNumberOf m a t) 0 e)
-      (ap (λ j'. withArea a j' w m) (is ∙ sym (upd-same (jobIn (m .areas)) a _)) ∙ ap (λ w'. withArea a (begin (layoutOf (m .plan)) a t (coreOf m) .jobs a) w' m) none)
+      (ap (λ j'. withArea a j' w m) (is ∙ begun-first (m .plan) a t (jobIn (m .areas) a) r first ∙ sym (upd-same (jobIn (m .areas)) a _)) ∙ ap (λ w'. withArea a (begin (layoutOf (m .plan)) a t (coreOf m) .jobs a) w' m) none)
 
   module _ (address : LogicalAddress) (n : ℕ) where
     -- the device of an accepted release is one that the manager has

@@ -22,6 +22,7 @@ use machine::questions::job_admission;
 use machine::questions::memory_admission;
 use machine::questions::release_admission;
 use machine::questions::round_admission;
+use machine::soundness::is_sound;
 use memory::Admission;
 use memory::DeviceAnswer;
 use memory::JobResult;
@@ -126,19 +127,12 @@ impl Manager {
         Loaded { answer, manager }
     }
 
-    fn with_area(self, area: usize, job: Job, waits: Waits) -> Manager
+    fn with_area(mut self, area: usize, job: Job, waits: Waits) -> Manager
         requires { ⌜ area < 8 ⌝ }
         ensures { λ r. ⌜ r ≡ withArea area job waits self ⌝ }
     {
-        let plan = self.plan;
-        let devices = self.devices;
-        let mut areas = self.areas;
-        areas[area] = Area { job, waits };
-        Manager {
-            plan,
-            areas,
-            devices,
-        }
+        self.areas[area] = Area { job, waits };
+        self
     }
 
     fn with_job(self, area: usize, job: Job) -> Manager
@@ -151,19 +145,12 @@ impl Manager {
         self.with_area(area, job, waits)
     }
 
-    fn with_device(self, device: usize, state: DeviceState) -> Manager
+    fn with_device(mut self, device: usize, state: DeviceState) -> Manager
         requires { ⌜ device < 4 ⌝ }
         ensures { λ r. ⌜ r ≡ withDevice device state self ⌝ }
     {
-        let plan = self.plan;
-        let areas = self.areas;
-        let mut devices = self.devices;
-        devices[device] = Device { state };
-        Manager {
-            plan,
-            areas,
-            devices,
-        }
+        self.devices[device] = Device { state };
+        self
     }
 
     fn job_of(self, area: usize) -> Job
@@ -180,17 +167,18 @@ impl Manager {
         ensures { λ r. ⌜ admissionNumber (r .answer) ≡ jobNumberOf self area task ⌝ }
         ensures { λ r. ⌜ r .manager ≡ afterJob self area task ⌝ }
     {
-        let plan = self.plan;
         let areas = self.areas;
         let devices = self.devices;
-        let answer = job_admission(plan, areas, devices, area, task);
+        let sound = is_sound(self.plan, areas, devices);
+        let asked = job_admission(sound, self.plan, areas, area, task);
+        let answer = asked.answer;
         match answer {
             Admission::Refused(_) => Answered {
                 answer,
                 manager: self,
             },
             Admission::Accepted => {
-                let job = begun_job(plan, areas, area, task);
+                let job = begun_job(areas, area, task, asked.retries);
                 let fresh = Area::fresh();
                 let waits = fresh.waits;
                 let manager = self.with_area(area, job, waits);
@@ -276,17 +264,17 @@ impl Manager {
         ensures { λ r. ⌜ admissionNumber (r .answer) ≡ releaseNumberOf self area address length ⌝ }
         ensures { λ r. ⌜ r .manager ≡ afterRelease self area address length ⌝ }
     {
-        let plan = self.plan;
         let areas = self.areas;
         let devices = self.devices;
-        let answer = release_admission(plan, areas, devices, area, address, length);
+        let sound = is_sound(self.plan, areas, devices);
+        let answer = release_admission(sound, self.plan, devices, area, address, length);
         match answer {
             Admission::Refused(_) => Answered {
                 answer,
                 manager: self,
             },
             Admission::Accepted => {
-                let device = range_device(plan, area, address, length);
+                let device = range_device(self.plan, area, address, length);
                 let manager = self.with_device(device as usize, DeviceState::Free);
                 Answered { answer, manager }
             }
@@ -300,7 +288,8 @@ impl Manager {
         let plan = self.plan;
         let areas = self.areas;
         let devices = self.devices;
-        let answer = cancel_admission(plan, areas, devices, area);
+        let sound = is_sound(plan, areas, devices);
+        let answer = cancel_admission(sound, plan, areas, area);
         match answer {
             Admission::Refused(_) => Answered {
                 answer,
@@ -320,7 +309,8 @@ impl Manager {
         let plan = self.plan;
         let areas = self.areas;
         let devices = self.devices;
-        info_admission(plan, areas, devices, area)
+        let sound = is_sound(plan, areas, devices);
+        info_admission(sound, plan, area)
     }
 
     pub fn status(self, area: usize) -> StatusAnswer
@@ -407,7 +397,8 @@ impl Manager {
         let plan = self.plan;
         let areas = self.areas;
         let devices = self.devices;
-        let answer = memory_admission(plan, areas, devices, area, address);
+        let sound = is_sound(plan, areas, devices);
+        let answer = memory_admission(sound, plan, area, address);
         match answer {
             Admission::Refused(_) => {
                 let info = no_memory();

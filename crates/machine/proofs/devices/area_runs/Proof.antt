@@ -1,43 +1,27 @@
-use mathlib.Core.Path.{_∙_}
-use Rattle.machine.specs.DeviceLaws.{area-runs}
+use Rattle.machine.specs.DeviceLaws.{none-own}
+use Rattle.rules.specs.Layout.{layoutOf}
+use mathlib.Core.Path.{sym, _∙_}
+use borrow.Author.Tests.{not-true}
 use borrow.Author.Needs.{needs}
 use Rattle.machine.proofs.devices.area_runs.Statement.{statement}
 use Rattle.machine.proofs.devices.area_runs.Tie as tie
 use Rattle.machine.proofs.devices.area_runs.Reads as reads
 use Rattle.machine.proofs.devices.area_runs.Lts as lts
-use Rattle.machine.proofs.devices.runs_for.Reads as runs-for-reads
-use Rattle.machine.proofs.devices.state_on.Reads as state-on-reads
-use Rattle.segment.proofs.segment_at.Reads as segment-at-reads
+use Rattle.machine.proofs.devices.request_runs.Reads as request-runs-reads
+use Rattle.machine.proofs.devices.runs_somewhere.Reads as runs-somewhere-reads
 
-mul-entry : tie.Need-mul-entry
-mul-entry c = search needs
-
-array-copy-out-entry : tie.Need-array-copy-out-entry
-array-copy-out-entry c = search needs
-
-segment-at-requires : tie.Need-segment-at-requires
-segment-at-requires c κs = search needs
-
-cast-state-on : tie.Need-cast-state-on
-cast-state-on c = search needs
-
-state-on-requires : tie.Need-state-on-requires
-state-on-requires c κs = search needs
-
-runs-for-requires : tie.Need-runs-for-requires
-runs-for-requires c κs = search needs
+runs-somewhere-requires : tie.Need-runs-somewhere-requires
+runs-somewhere-requires c κs = search needs
 
 returns : tie.Need-returns
-returns c = c .runs-for .ensures ∙ area-runs (c .before .before .before .before .before .before .before .args .plan) (c .before .before .before .before .before .before .before .args .t2) (c .before .before .before .before .before .before .before .args .devices) (c .before .before .before .before .before .before .before .args .area) _ _ (c .before .before .before .segment-at .ensures) (c .before .state-on .ensures)
+returns c = none-own (c .before .before .args .devices) (c .before .before .args .area) 4 (c .before .before .good .1 .1 .0 .1 .0 .1) (sym (c .before .runs-somewhere .ensures) ∙ not-true (c .before .runs-somewhere .result) (c .if1 .taken)) (layoutOf (c .before .before .args .plan)) (c .before .before .args .areas)
+
+request-runs-requires : tie.Need-request-runs-requires
+request-runs-requires c κs = search needs
+
+returns-2 : tie.Need-returns-2
+returns-2 c = search needs
 
 pub area-runs-spec : {M : Type 1} → statement M
 area-runs-spec =
-    tie.close
-    (tie.spec
-    mul-entry
-    array-copy-out-entry
-    segment-at-requires
-    cast-state-on
-    state-on-requires
-    runs-for-requires
-    returns)
+    tie.close (tie.spec runs-somewhere-requires returns request-runs-requires returns-2)

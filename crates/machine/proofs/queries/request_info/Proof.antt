@@ -1,43 +1,36 @@
-use mathlib.Core.Path.{_∙_}
-use Rattle.machine.specs.DeviceLaws.{request-of}
+use Rattle.machine.specs.DeviceLaws.{none-request}
+use mathlib.Core.Path.{sym, _∙_}
+use borrow.Author.Tests.{not-true}
 use borrow.Author.Needs.{needs}
 use Rattle.machine.proofs.queries.request_info.Statement.{statement}
 use Rattle.machine.proofs.queries.request_info.Tie as tie
 use Rattle.machine.proofs.queries.request_info.Reads as reads
 use Rattle.machine.proofs.queries.request_info.Lts as lts
-use Rattle.machine.proofs.devices.state_on.Reads as state-on-reads
-use Rattle.machine.proofs.queries.request_on.Reads as request-on-reads
-use Rattle.segment.proofs.segment_at.Reads as segment-at-reads
+use Rattle.machine.proofs.devices.runs_somewhere.Reads as runs-somewhere-reads
+use Rattle.machine.proofs.queries.no_request.Reads as no-request-reads
+use Rattle.machine.proofs.queries.running_request.Reads as running-request-reads
 
-mul-entry : tie.Need-mul-entry
-mul-entry c = search needs
+runs-somewhere-requires : tie.Need-runs-somewhere-requires
+runs-somewhere-requires c κs = search needs
 
-array-copy-out-entry : tie.Need-array-copy-out-entry
-array-copy-out-entry c = search needs
-
-segment-at-requires : tie.Need-segment-at-requires
-segment-at-requires c κs = search needs
-
-cast-state-on : tie.Need-cast-state-on
-cast-state-on c = search needs
-
-state-on-requires : tie.Need-state-on-requires
-state-on-requires c κs = search needs
-
-request-on-requires : tie.Need-request-on-requires
-request-on-requires c κs = search needs
+no-request-requires : tie.Need-no-request-requires
+no-request-requires c κs = search needs
 
 returns : tie.Need-returns
-returns c = c .request-on .ensures ∙ request-of (c .before .before .before .before .before .before .before .args .plan) (c .before .before .before .before .before .before .before .args .t2) (c .before .before .before .before .before .before .before .args .devices) (c .before .before .before .before .before .before .before .args .area) _ _ (c .before .before .before .segment-at .ensures) (c .before .state-on .ensures)
+returns c = c .no-request .ensures ∙ none-request (c .before .before .before .args .devices) (c .before .before .before .args .area) 4 (c .before .before .before .good .1 .1 .0 .1 .0 .1) (sym (c .before .before .runs-somewhere .ensures) ∙ not-true (c .before .before .runs-somewhere .result) (c .before .if1 .taken)) _ _
+
+running-request-requires : tie.Need-running-request-requires
+running-request-requires c κs = search needs
+
+returns-2 : tie.Need-returns-2
+returns-2 c = search needs
 
 pub request-info-spec : {M : Type 1} → statement M
 request-info-spec =
     tie.close
     (tie.spec
-    mul-entry
-    array-copy-out-entry
-    segment-at-requires
-    cast-state-on
-    state-on-requires
-    request-on-requires
-    returns)
+    runs-somewhere-requires
+    no-request-requires
+    returns
+    running-request-requires
+    returns-2)

@@ -1,7 +1,7 @@
-use mathlib.Core.Path.{sym, ap, _∙_}
+use Rattle.manager.specs.CallLaws.{refused-some, memory-number, memory-few, memory-refused, memory-accepted}
+use Rattle.machine.specs.Sound.{sound-few}
 use Rattle.memory.specs.Numbers.{admissionNumber}
-use Rattle.manager.specs.CallLaws.{refused-some, memory-few, memory-refused, memory-accepted}
-use Rattle.manager.specs.Calls.{memoryInfoNumberOf}
+use mathlib.Core.Path.{sym, ap, _∙_}
 use borrow.Author.Needs.{needs}
 use Rattle.manager.proofs.Manager.memory_info.Statement.{statement}
 use Rattle.manager.proofs.Manager.memory_info.Tie as tie
@@ -10,9 +10,13 @@ use Rattle.manager.proofs.Manager.memory_info.Lts as lts
 use Rattle.machine.proofs.queries.memory_info.Reads as memory-info-reads
 use Rattle.machine.proofs.queries.no_memory.Reads as no-memory-reads
 use Rattle.machine.proofs.questions.memory_admission.Reads as memory-admission-reads
+use Rattle.machine.proofs.soundness.is_sound.Reads as is-sound-reads
+
+is-sound-requires : tie.Need-is-sound-requires
+is-sound-requires c κs = search needs
 
 memory-admission-requires : tie.Need-memory-admission-requires
-memory-admission-requires c κs = search needs
+memory-admission-requires c κs = λ e. sound-few _ _ _ (sym (c .is-sound .ensures) ∙ e)
 
 enum-told : tie.Need-enum-told
 enum-told c = search needs
@@ -24,21 +28,36 @@ enum-told-2 : tie.Need-enum-told-2
 enum-told-2 c = search needs
 
 memory-info-requires : tie.Need-memory-info-requires
-unfolding memoryInfoNumberOf
-memory-info-requires c κs = memory-few (c .before .before .before .before .before .before .args .self) (c .before .before .before .before .before .before .args .area) (c .before .before .before .before .before .before .args .address) (sym (c .before .before .memory-admission .ensures) ∙ ap admissionNumber (c .enum-told2 .given .1))
+memory-info-requires c κs =
+    let m = c .before .before .before .before .before .before .before .args .self in
+    let a = c .before .before .before .before .before .before .before .args .area in
+    let address = c .before .before .before .before .before .before .before .args .address in
+    let number = memory-number m a _ (c .before .before .before .is-sound .ensures) _ address (c .before .before .memory-admission .ensures) in
+    let accepted = sym number ∙ ap admissionNumber (c .enum-told2 .given .1) in
+    memory-few m a address accepted
 
 returns : tie.Need-returns
-unfolding memoryInfoNumberOf
-returns c = (c .before .before .before .memory-admission .ensures, c .no-memory .ensures ∙ memory-refused (c .before .before .before .before .before .before .before .args .self) (c .before .before .before .before .before .before .before .args .area) (c .before .before .before .before .before .before .before .args .address) (refused-some _ _ (c .before .enum-told .given .1) _ (c .before .before .before .memory-admission .ensures)))
+returns c =
+    let m = c .before .before .before .before .before .before .before .before .args .self in
+    let a = c .before .before .before .before .before .before .before .before .args .area in
+    let address = c .before .before .before .before .before .before .before .before .args .address in
+    let number = memory-number m a _ (c .before .before .before .before .is-sound .ensures) _ address (c .before .before .before .memory-admission .ensures) in
+    (number, c .no-memory .ensures ∙ memory-refused m a address (refused-some _ _ (c .before .enum-told .given .1) _ number))
 
 returns-2 : tie.Need-returns-2
-unfolding memoryInfoNumberOf
-returns-2 c = (c .before .before .before .memory-admission .ensures, c .memory-info .ensures ∙ memory-accepted (c .before .before .before .before .before .before .before .args .self) (c .before .before .before .before .before .before .before .args .area) (c .before .before .before .before .before .before .before .args .address) (sym (c .before .before .before .memory-admission .ensures) ∙ ap admissionNumber (c .before .enum-told2 .given .1)))
+returns-2 c =
+    let m = c .before .before .before .before .before .before .before .before .args .self in
+    let a = c .before .before .before .before .before .before .before .before .args .area in
+    let address = c .before .before .before .before .before .before .before .before .args .address in
+    let number = memory-number m a _ (c .before .before .before .before .is-sound .ensures) _ address (c .before .before .before .memory-admission .ensures) in
+    let accepted = sym number ∙ ap admissionNumber (c .before .enum-told2 .given .1) in
+    (number, c .memory-info .ensures ∙ memory-accepted m a address accepted)
 
 pub memory-info-spec : {M : Type 1} → statement M
 memory-info-spec =
     tie.close
     (tie.spec
+    is-sound-requires
     memory-admission-requires
     enum-told
     no-memory-requires

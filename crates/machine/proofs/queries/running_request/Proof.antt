@@ -1,0 +1,43 @@
+use mathlib.Core.Path.{_∙_}
+use Rattle.machine.specs.DeviceLaws.{request-of}
+use borrow.Author.Needs.{needs}
+use Rattle.machine.proofs.queries.running_request.Statement.{statement}
+use Rattle.machine.proofs.queries.running_request.Tie as tie
+use Rattle.machine.proofs.queries.running_request.Reads as reads
+use Rattle.machine.proofs.queries.running_request.Lts as lts
+use Rattle.machine.proofs.devices.state_on.Reads as state-on-reads
+use Rattle.machine.proofs.queries.request_on.Reads as request-on-reads
+use Rattle.segment.proofs.segment_at.Reads as segment-at-reads
+
+mul-entry : tie.Need-mul-entry
+mul-entry c = search needs
+
+array-copy-out-entry : tie.Need-array-copy-out-entry
+array-copy-out-entry c = search needs
+
+segment-at-requires : tie.Need-segment-at-requires
+segment-at-requires c κs = search needs
+
+cast-state-on : tie.Need-cast-state-on
+cast-state-on c = search needs
+
+state-on-requires : tie.Need-state-on-requires
+state-on-requires c κs = search needs
+
+request-on-requires : tie.Need-request-on-requires
+request-on-requires c κs = search needs
+
+returns : tie.Need-returns
+returns c = c .request-on .ensures ∙ request-of (c .before .before .before .before .before .before .before .args .plan) (c .before .before .before .before .before .before .before .args .t2) (c .before .before .before .before .before .before .before .args .devices) (c .before .before .before .before .before .before .before .args .area) _ _ (c .before .before .before .segment-at .ensures) (c .before .state-on .ensures)
+
+pub running-request-spec : {M : Type 1} → statement M
+running-request-spec =
+    tie.close
+    (tie.spec
+    mul-entry
+    array-copy-out-entry
+    segment-at-requires
+    cast-state-on
+    state-on-requires
+    request-on-requires
+    returns)
