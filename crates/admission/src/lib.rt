@@ -29,7 +29,7 @@ use segment::segment_at;
 use segment::segment_found;
 use segment::unit_of;
 
-// The answer to a job and, where it is accepted, how many retries its first segment may take: the door has found that segment.
+// The answer to a job and, where it is accepted, how many retries its first segment may take: its questions have found that segment.
 pub struct JobAnswer {
     pub answer: Admission,
     pub retries: u8,
