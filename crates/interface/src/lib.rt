@@ -1,7 +1,6 @@
 // What C and Rust see of a manager: structs in C's layout, with the papers' number in the place of each enum.
 ghost use mathlib.Core.Path.{_≡_};
 ghost use lib.ListN.{length, take};
-ghost use Rattle.arith.specs.Tables.{table};
 ghost use Rattle.requests.specs.Effects.{memoryOf};
 ghost use Rattle.session.specs.Fold.{playedAll};
 ghost use Rattle.interface.specs.Views.{jobView, areaView, noAreaView, areaViews, deviceView, noDeviceView, deviceViews, loadView};

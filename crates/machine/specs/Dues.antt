@@ -1,10 +1,10 @@
 -- A round finds the due segments of all pending jobs once: the soundness test with them is question 9.
 use Prim.Native.Nat.{ℕ, _+_, _-_, _≤_, _<_}
-use mathlib.Core.Bool.{Bool, true, false, _&&_}
+use mathlib.Core.Bool.{Bool, true}
 use mathlib.Core.List.{List}
 use mathlib.Core.Path.{_≡_, refl, sym, ap, fun-ext, _∙_}
 use native.Mathlib.Omega.{arith}
-use borrow.Author.Tests.{lt-ltb, le-ltb}
+use borrow.Author.Tests.{le-ltb}
 use lib.Dec.{ltb}
 use lib.ListN.{getD}
 use Rattle.arith.specs.Bounded.{every}
@@ -16,7 +16,7 @@ use Rattle.plan.specs.declared.records.AreaRecord.{AreaRecord}
 use Rattle.plan.specs.declared.records.DeviceRecord.{DeviceRecord}
 use Rattle.plan.specs.declared.records.Plan.{Plan}
 use Rattle.plan.specs.declared.records.SubAreaRecord.{SubAreaRecord}
-use Rattle.rules.specs.Machine.{Core, isPending}
+use Rattle.rules.specs.Machine.{isPending}
 use Rattle.segment.specs.Found.{indexOf, Inside, segmentIf, index-within, offset-inside, if-found, segment-from}
 use Rattle.segment.specs.Mapping.{located}
 use Rattle.segment.specs.Segments.{noSegment, segmentAt, segmentOf}

@@ -4,7 +4,7 @@ use Prim.Native.Nat.{ℕ}
 use mathlib.Core.Bool.{Bool}
 use mathlib.Core.List.{List, _∷_}
 use lib.Dec.{eqb}
-use lib.ListN.{getD, set}
+use lib.ListN.{set}
 use Rattle.arith.specs.Cases.{pick}
 use Rattle.arith.specs.FirstNo.{firstNo}
 use Rattle.machine.specs.Sound.{isSound, coreIn}
@@ -19,7 +19,7 @@ use Rattle.rules.specs.Layout.{layoutOf}
 use Rattle.rules.specs.Machine.{Core, begin, cancel, release}
 use Rattle.rules.specs.Memory.{Memory}
 use Rattle.rules.specs.Queries.{noRequest, jobInfoOf, noMemoryInfo, memoryInfoOf}
-use Rattle.state.specs.Fresh.{freshArea, noJob, noWaits}
+use Rattle.state.specs.Fresh.{noJob, noWaits}
 use Rattle.state.specs.declared.DeviceState.{DeviceState}
 use Rattle.state.specs.declared.Job.{Job}
 use Rattle.state.specs.declared.JobInfo.{JobInfo}

@@ -1,11 +1,9 @@
 -- document 01: what a load returns
-use Prim.Native.Nat.{ℕ, _<_}
+use Prim.Native.Nat.{ℕ}
 use mathlib.Core.Path.{_≡_}
 use mathlib.Core.List.{List}
 use lib.Dec.{eqb}
 use lib.ListN.{replicate}
-use native.Mathlib.Omega.{arith}
-use borrow.Author.Tests.{eq-eqb, ne-eqb}
 use Rattle.arith.specs.Cases.{pick, by-eqb}
 use Rattle.plan.specs.Records.{planOf, emptyPlan}
 use Rattle.plan.specs.Questions.{loadNumber, loadedPlan}

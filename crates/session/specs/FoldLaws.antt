@@ -2,19 +2,20 @@
 use Prim.Native.Nat.{ℕ, _+_, _-_, _≤_, _<_}
 use mathlib.Core.Bool.{Bool, true, false, true≢false, false≢true}
 use mathlib.Core.List.{List, [], _∷_}
-use mathlib.Core.Path.{_≡_, refl, ap, _∙_}
+use mathlib.Core.Path.{_≡_, refl, sym, _∙_}
 use native.Mathlib.Omega.{arith}
 use borrow.Author.Tests.{lt-ltb, le-ltb, le-leb, lt-leb}
 use lib.ListN.{length, take, length-take, length-drop}
 use lib.Seq.{length-take-le}
-use Rattle.lines.specs.Fields.{isLast, word}
+use Rattle.arith.specs.Cases.{by-ltb}
+use Rattle.lines.specs.Fields.{cutAt, isLast, word}
 use Rattle.manager.specs.Load.{loadedManager}
 use Rattle.manager.specs.declared.Manager.{Manager}
 use Rattle.requests.specs.Effects.{memoryOf}
 use Rattle.rules.specs.Memory.{Memory}
 use Rattle.texts.specs.Appended.{Appended}
 use Rattle.session.specs.Fold.{Session, played, playedLast, playedLines, playedInput, opened, playedAll}
-use Rattle.session.specs.PlanText.{planText}
+use Rattle.session.specs.PlanText.{planText, openText}
 use Rattle.session.specs.Play.{playedText, playedManager, playedMemory}
 
 abbrev pub sessionOf : Manager → List ℕ → List ℕ → List ℕ → ℕ → ℕ → Session
@@ -71,28 +72,19 @@ module _ (ends : Bool) (room : ℕ) (m : Manager) (image store out : List ℕ) (
 pub word-length : (l : List ℕ) (from i : ℕ) → from ≤ i → i ≤ length l → length (word l from i) ≡ i - from
 word-length l from i h k = simp (length-take, length-drop) (omega arith)
 
--- the whole session by its cases; s is what the lines come to
-module _ (plan input : List ℕ) (room : ℕ) (lent : Memory) where
-  pub all-full : room < 338 → opened plan [] lent ≡ playedAll plan input room lent
-  unfolding playedAll
-  all-full h = rw (lt-ltb _ _ h)
-
-  pub all-refused : 338 ≤ room → 0 < length (planText plan) → opened plan (planText plan) lent ≡ playedAll plan input room lent
-  unfolding playedAll
-  all-refused h k = rw (le-ltb _ _ h, le-ltb _ _ k)
-
-  pub all-played : 338 ≤ room → length (planText plan) ≤ 0 → playedInput true room input (opened plan [] lent) ≡ playedAll plan input room lent
-  unfolding playedAll
-  all-played h k = rw (le-ltb _ _ h, lt-ltb (length (planText plan)) 1 (omega arith))
-
--- what each part of an equation of sessions says
-pub session-parts : (m : Manager) (image store out : List ℕ) (end used : ℕ) (s : Session) → sessionOf m image store out end used ≡ s →
-    (image ≡ s .memory .image) × (store ≡ s .memory .store) × (take end out ≡ s .printed) × (used ≡ s .used)
-session-parts m image store out end used s e =
-    (ap (λ (x : Session). x .memory .image) e, ap (λ (x : Session). x .memory .store) e, ap (λ (x : Session). x .printed) e, ap (λ (x : Session). x .used) e)
+-- the whole session by what was printed of the plan
+pub all-refused : (plan input : List ℕ) (lent : Memory) {before out : List ℕ} {k : ℕ} → Appended before out 0 k (openText (length before) plan) → 0 < k →
+    opened plan (take k out) lent ≡ playedAll plan input (length before) lent
+unfolding playedAll openText
+all-refused plan input lent {before} q h =
+    by-ltb (length before) 338 (λ e _. absurd (omega (arith, rw e at (q .ends)))) (λ e _. let p = rw e at q in
+    rw (e, p .bytes, le-ltb (length (planText plan)) 1 (omega (arith, p .ends))))
 
 pub all-lines : (plan input image store : List ℕ) {before out : List ℕ} {k : ℕ} (m : Manager) (x : Session) → m ≡ loadedManager plan →
-    Appended before out 0 k (planText plan) → 338 ≤ length before → k ≤ 0 →
+    Appended before out 0 k (openText (length before) plan) → k ≤ 0 →
     x ≡ playedInput true (length out) input (sessionOf m image store out 0 0) → x ≡ playedAll plan input (length before) (memoryOf image store)
-all-lines plan input image store {before} m x e q h z p =
-    p ∙ rw (e, q .long) (all-played plan input (length before) (memoryOf image store) h (omega (arith, q .ends)))
+unfolding playedAll openText
+all-lines plan input image store {before} {out} m x e q z p =
+    by-ltb (length before) 338 (λ t h. p
+    ∙ sym (lines-full true (length out) m image store out 0 0 (omega arith) (omega (arith, q .long)) (cutAt 10 input))
+    ∙ rw (e, t)) (λ t _. p ∙ rw (e, q .long, t, lt-ltb (length (planText plan)) 1 (omega (arith, (rw t at q) .ends))))

@@ -2,7 +2,7 @@
 -- unreadable prints only '?'." An accepted plan prints nothing.
 use Prim.Native.Nat.{ℕ, _≤_, _<_}
 use mathlib.Core.List.{List, []}
-use mathlib.Core.Path.{_≡_}
+use mathlib.Core.Path.{_≡_, refl}
 use borrow.Author.Tests.{eq-eqb, lt-ltb, le-ltb}
 use lib.Dec.{ltb}
 use lib.ListN.{length, length-append}
@@ -13,7 +13,9 @@ use Rattle.manager.specs.declared.Manager.{Manager}
 use Rattle.plan.specs.Accepted.{accepted}
 use Rattle.plan.specs.Records.{planOf}
 use Rattle.plan.specs.Questions.{lengthSum, loadNumber}
+use Rattle.texts.specs.Appended.{Appended, append-none}
 use Rattle.texts.specs.Texts.{numberLine, questionLine}
+use Rattle.session.specs.declared.Opened.{Opened}
 
 -- "device sum at most 65,536"
 abbrev pub deviceSum : List ℕ → ℕ
@@ -25,9 +27,16 @@ planText l =
     (pick (ltb 0 (loadNumber l)) (numberLine (loadNumber l))
     (pick (ltb 65536 (deviceSum l)) questionLine []))
 
+-- what is printed of the plan into a buffer of `room` bytes: nothing where the longest answer has no room
+unfoldable pub openText : ℕ → List ℕ → List ℕ
+openText room l = pick (ltb room 338) [] (planText l)
+
 -- "image all 255" has as many bytes as the devices together; there is none where the session does not go on
-unfoldable pub imageLength : List ℕ → ℕ
-imageLength l = pick (ltb (length (planText l)) 1) (deviceSum l) 0
+unfoldable pub imageLength : ℕ → List ℕ → ℕ
+imageLength room l = pick (ltb room 338) 0 (pick (ltb (length (planText l)) 1) (deviceSum l) 0)
+
+abbrev pub closedOf : Manager → ℕ → Opened
+closedOf m written = record { manager = m; «image_length» = 0; written = written }
 
 -- an accepted load keeps the plan that the bytes hold
 module _ (l : List ℕ) (m : Manager) (e : m ≡ loadedManager l) (zero : loadNumber l ≡ 0) where
@@ -63,11 +72,25 @@ module _ (l : List ℕ) where
   unfolding planText
   text-accepted h e k = rw (le-ltb _ _ h, e, le-ltb _ _ k)
 
-  -- and the length of the image in each
-  pub image-none : {text : List ℕ} → text ≡ planText l → 1 ≤ length text → 0 ≡ imageLength l
-  unfolding imageLength
-  image-none e h = rw (← e, le-ltb _ _ h)
+-- what `open` did
+abbrev pub OpenDone : List ℕ → Opened → List ℕ → List ℕ → Type 0
+OpenDone l r before after =
+    (r .manager ≡ loadedManager l)
+    × (((Appended before after 0 (r .written) (openText (length before) l)) × (r .written ≤ length after))
+    × ((r .«image_length» ≡ imageLength (length before) l) × (r .«image_length» ≤ 65536)))
 
-  pub image-sum : [] ≡ planText l → (n : ℕ) → n ≡ deviceSum l → n ≡ imageLength l
-  unfolding imageLength
-  image-sum e n f = rw (← e) f
+module _ (l : List ℕ) (m : Manager) (r : Opened) {a : List ℕ} (e : m ≡ loadedManager l) where
+  pub open-full : length a < 338 → r ≡ closedOf m 0 → OpenDone l r a a
+  unfolding openText imageLength
+  open-full h f = rw (f, lt-ltb (length a) 338 h) (e, ((append-none a 0, omega arith), (refl, omega arith)))
+
+  pub open-closed : {b text : List ℕ} (j : ℕ) → 338 ≤ length a → r ≡ closedOf m j → text ≡ planText l → 1 ≤ length text → Appended a b 0 j text → j ≤ 338 →
+      OpenDone l r a b
+  unfolding openText imageLength
+  open-closed j h f t k p few =
+      rw (f, le-ltb (length a) 338 h, ← t, le-ltb _ _ k) (e, ((p, omega (arith, p .long)), (refl, omega arith)))
+
+  pub open-open : (n : ℕ) → 338 ≤ length a → r ≡ record { manager = m; «image_length» = n; written = 0 } → [] ≡ planText l → n ≡ deviceSum l → n ≤ 65536 →
+      OpenDone l r a a
+  unfolding openText imageLength
+  open-open n h f t g few = rw (f, le-ltb (length a) 338 h, ← t) (e, ((append-none a 0, omega arith), (g, few)))

@@ -45,7 +45,14 @@ fn play_last(
         };
     }
     let played = play(manager, rest, image, store, out, end);
-    let next = played.manager;
+    let plan = manager.plan;
+    let areas = played.areas;
+    let devices = played.devices;
+    let next = Manager {
+        plan,
+        areas,
+        devices,
+    };
     Progress {
         manager: next,
         used: used + rest.len(),
@@ -82,7 +89,10 @@ pub fn play_lines(
             return play_last(next, &input[at..to], ends, image, store, out, end, at);
         }
         let played = play(next, &input[at..to], image, store, out, end);
-        next = played.manager;
+        let areas = played.areas;
+        let devices = played.devices;
+        next.areas = areas;
+        next.devices = devices;
         end = played.end;
         at = to + 1;
     }

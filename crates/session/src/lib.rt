@@ -6,7 +6,7 @@ ghost use Rattle.manager.specs.Load.{loadedManager};
 ghost use Rattle.requests.specs.Effects.{memoryOf};
 ghost use Rattle.texts.specs.Appended.{Appended};
 ghost use Rattle.session.specs.Fold.{playedAll};
-ghost use Rattle.session.specs.PlanText.{planText, imageLength};
+ghost use Rattle.session.specs.PlanText.{openText, imageLength, closedOf};
 
 pub mod fold;
 mod play;
@@ -24,43 +24,45 @@ pub struct Opened {
     pub written: usize,
 }
 
-// Loads the plan, and prints what the bench answers to it.
-pub fn open(plan: &[u8], out: &mut [u8]) -> Opened
-    requires { ⌜ 338 ≤ length (now out) ⌝ }
-    ensures { λ r. ⌜ r .manager ≡ loadedManager (now (plan .entry)) ⌝ }
-    ensures { λ r. ⌜ (Appended (now (out .entry)) (now (out .exit)) 0 (r .written) (planText (now (plan .entry)))) × (r .written ≤ 338) ⌝ }
-    ensures { λ r. ⌜ (r .«image_length» ≡ imageLength (now (plan .entry))) × (r .«image_length» ≤ 65536) ⌝ }
-{
-    let loaded = Manager::load(plan);
-    let manager = loaded.manager;
-    if 4096 < plan.len() {
-        let written = question_line(out, 0);
-        return Opened {
+impl Opened {
+    // The session does not go on, and needs no image.
+    fn closed(manager: Manager, written: usize) -> Opened
+        ensures { λ r. ⌜ r ≡ closedOf manager written ⌝ }
+    {
+        Opened {
             manager,
             image_length: 0,
             written,
-        };
+        }
+    }
+}
+
+// Loads the plan, and prints what the bench answers to it; nothing where the longest answer has no room.
+pub fn open(plan: &[u8], out: &mut [u8]) -> Opened
+    ensures { λ r. ⌜ r .manager ≡ loadedManager (now (plan .entry)) ⌝ }
+    ensures { λ r. ⌜ (Appended (now (out .entry)) (now (out .exit)) 0 (r .written) (openText (length (now (out .entry))) (now (plan .entry)))) × (r .written ≤ length (now (out .exit))) ⌝ }
+    ensures { λ r. ⌜ (r .«image_length» ≡ imageLength (length (now (out .entry))) (now (plan .entry))) × (r .«image_length» ≤ 65536) ⌝ }
+{
+    let loaded = Manager::load(plan);
+    let manager = loaded.manager;
+    if out.len() < 338 {
+        return Opened::closed(manager, 0);
+    }
+    if 4096 < plan.len() {
+        let written = question_line(out, 0);
+        return Opened::closed(manager, written);
     }
     let answer = loaded.answer;
     let number = answer.number();
     if 0 < number {
         let written = number_line(out, 0, number as u64);
-        return Opened {
-            manager,
-            image_length: 0,
-            written,
-        };
+        return Opened::closed(manager, written);
     }
-    let kept = manager.plan;
-    let devices = kept.devices;
-    let sum = device_sum(devices, kept.device_count);
+    let devices = manager.plan.devices;
+    let sum = device_sum(devices, manager.plan.device_count);
     if 65536 < sum {
         let written = question_line(out, 0);
-        return Opened {
-            manager,
-            image_length: 0,
-            written,
-        };
+        return Opened::closed(manager, written);
     }
     Opened {
         manager,
@@ -90,12 +92,6 @@ pub fn play_all(
     ensures { λ r. ⌜ r .used ≡ playedAll (now (plan .entry)) (now (input .entry)) (length (now (out .entry))) (memoryOf (now (image .entry)) (now (store .entry))) .used ⌝ }
     ensures { λ r. ⌜ (r .used ≤ length (now (input .entry))) × (r .written ≤ length (now (out .exit))) ⌝ }
 {
-    if out.len() < 338 {
-        return Counts {
-            used: 0,
-            written: 0,
-        };
-    }
     let opened = open(plan, out);
     if 0 < opened.written {
         return Counts {

@@ -7,7 +7,8 @@ ghost use Rattle.memory.specs.Numbers.{admissionNumber};
 ghost use Rattle.requests.specs.Effects.{memoryOf};
 ghost use Rattle.texts.specs.Appended.{Appended};
 ghost use Rattle.texts.specs.Texts.{numberLine};
-ghost use Rattle.session.specs.Play.{numberOfCall, afterCall, infoText, roundText, textOfLine, afterLine, memoryAfterLine, playedText, playedManager, playedMemory};
+ghost use Rattle.session.specs.Play.{numberOfCall, afterCall, infoText, roundText, playedText, playedManager, playedMemory};
+ghost use Rattle.session.specs.PlayLaws.{playedOf, leftBy};
 use lines::Line;
 use lines::LineCall;
 use lines::line_of;
@@ -16,14 +17,32 @@ use manager::Manager;
 use memory::DeviceAnswer;
 use memory::LogicalAddress;
 use shown::devices_line;
+use state::Area;
+use state::Device;
 use texts::info_line;
 use texts::number_line;
 use texts::question_line;
 
-// The next manager, and where the answer ends in the buffer.
+// What a line leaves of the manager's areas and devices (the plan never changes, and is long to hand on), and where the
+// answer ends in the buffer.
 pub struct Played {
-    pub manager: Manager,
+    pub areas: [Area; 8],
+    pub devices: [Device; 4],
     pub end: usize,
+}
+
+impl Played {
+    fn of(next: Manager, end: usize) -> Played
+        ensures { λ r. ⌜ r ≡ playedOf next end ⌝ }
+    {
+        let areas = next.areas;
+        let devices = next.devices;
+        Played {
+            areas,
+            devices,
+            end,
+        }
+    }
 }
 
 fn make(manager: Manager, call: LineCall) -> Answered
@@ -50,14 +69,14 @@ fn make(manager: Manager, call: LineCall) -> Answered
 
 fn play_call(manager: Manager, call: LineCall, out: &mut [u8], at: usize) -> Played
     requires { ⌜ at + 338 ≤ length (now out) ⌝ }
-    ensures { λ r. ⌜ (r .manager ≡ afterCall call manager) × (Appended (now (out .entry)) (now (out .exit)) at (r .end) (numberLine (numberOfCall call manager))) × (r .end ≤ at + 338) ⌝ }
+    ensures { λ r. ⌜ (leftBy manager r ≡ afterCall call manager) × (Appended (now (out .entry)) (now (out .exit)) at (r .end) (numberLine (numberOfCall call manager))) × (r .end ≤ at + 338) ⌝ }
 {
     let answered = make(manager, call);
     let answer = answered.answer;
     let number = answer.number();
     let next = answered.manager;
     let end = number_line(out, at, number as u64);
-    Played { manager: next, end }
+    Played::of(next, end)
 }
 
 fn play_info(manager: Manager, area: u32, out: &mut [u8], at: usize) -> usize
@@ -85,7 +104,7 @@ fn play_round(
     at: usize,
 ) -> Played
     requires { ⌜ at + 338 ≤ length (now out) ⌝ }
-    ensures { λ r. ⌜ r .manager ≡ afterRound manager answers (memoryOf (now (image .entry)) (now (store .entry))) ⌝ }
+    ensures { λ r. ⌜ leftBy manager r ≡ afterRound manager answers (memoryOf (now (image .entry)) (now (store .entry))) ⌝ }
     ensures { λ _. ⌜ now (image .exit) ≡ memoryAfterRound manager answers (memoryOf (now (image .entry)) (now (store .entry))) .image ⌝ }
     ensures { λ _. ⌜ now (store .exit) ≡ memoryAfterRound manager answers (memoryOf (now (image .entry)) (now (store .entry))) .store ⌝ }
     ensures { λ r. ⌜ (Appended (now (out .entry)) (now (out .exit)) at (r .end) (roundText (roundNumberOf manager (memoryOf (now (image .entry)) (now (store .entry)))) (afterRound manager answers (memoryOf (now (image .entry)) (now (store .entry)))))) × (r .end ≤ at + 338) ⌝ }
@@ -96,49 +115,12 @@ fn play_round(
     let number = answer.number();
     if 0 < number {
         let end = number_line(out, at, number as u64);
-        return Played { manager: next, end };
+        return Played::of(next, end);
     }
-    let plan = next.plan;
     let areas = next.areas;
     let devices = next.devices;
-    let end = devices_line(out, at, plan, areas, devices);
-    Played { manager: next, end }
-}
-
-fn play_line(
-    manager: Manager,
-    line: Line,
-    image: &mut [u8],
-    store: &mut [u8],
-    out: &mut [u8],
-    at: usize,
-) -> Played
-    requires { ⌜ at + 338 ≤ length (now out) ⌝ }
-    ensures { λ r. ⌜ r .manager ≡ afterLine line manager (memoryOf (now (image .entry)) (now (store .entry))) ⌝ }
-    ensures { λ _. ⌜ now (image .exit) ≡ memoryAfterLine line manager (memoryOf (now (image .entry)) (now (store .entry))) .image ⌝ }
-    ensures { λ _. ⌜ now (store .exit) ≡ memoryAfterLine line manager (memoryOf (now (image .entry)) (now (store .entry))) .store ⌝ }
-    ensures { λ r. ⌜ (Appended (now (out .entry)) (now (out .exit)) at (r .end) (textOfLine line manager (memoryOf (now (image .entry)) (now (store .entry))))) × (r .end ≤ at + 338) ⌝ }
-{
-    match line {
-        Line::Unreadable => {
-            let end = question_line(out, at);
-            Played { manager, end }
-        }
-        Line::Call(call) => play_call(manager, call, out, at),
-        Line::Info(area) => {
-            let end = play_info(manager, area, out, at);
-            Played { manager, end }
-        }
-        Line::Round {
-            first,
-            second,
-            third,
-            fourth,
-        } => {
-            let answers = [first, second, third, fourth];
-            play_round(manager, answers, image, store, out, at)
-        }
-    }
+    let end = devices_line(out, at, manager.plan, areas, devices);
+    Played::of(next, end)
 }
 
 // A line, its bytes without the line end. The answer is at most 338 bytes long.
@@ -151,12 +133,30 @@ pub fn play(
     at: usize,
 ) -> Played
     requires { ⌜ at + 338 ≤ length (now out) ⌝ }
-    ensures { λ r. ⌜ r .manager ≡ playedManager manager (now (line .entry)) (memoryOf (now (image .entry)) (now (store .entry))) ⌝ }
+    ensures { λ r. ⌜ leftBy manager r ≡ playedManager manager (now (line .entry)) (memoryOf (now (image .entry)) (now (store .entry))) ⌝ }
     ensures { λ _. ⌜ now (image .exit) ≡ playedMemory manager (now (line .entry)) (memoryOf (now (image .entry)) (now (store .entry))) .image ⌝ }
     ensures { λ _. ⌜ now (store .exit) ≡ playedMemory manager (now (line .entry)) (memoryOf (now (image .entry)) (now (store .entry))) .store ⌝ }
     ensures { λ r. ⌜ (Appended (now (out .entry)) (now (out .exit)) at (r .end) (playedText manager (now (line .entry)) (memoryOf (now (image .entry)) (now (store .entry))))) × (r .end ≤ at + 338) ⌝ }
 {
-    let plan = manager.plan;
-    let asked = line_of(line, plan.device_count);
-    play_line(manager, asked, image, store, out, at)
+    let asked = line_of(line, manager.plan.device_count);
+    match asked {
+        Line::Unreadable => {
+            let end = question_line(out, at);
+            Played::of(manager, end)
+        }
+        Line::Call(call) => play_call(manager, call, out, at),
+        Line::Info(area) => {
+            let end = play_info(manager, area, out, at);
+            Played::of(manager, end)
+        }
+        Line::Round {
+            first,
+            second,
+            third,
+            fourth,
+        } => {
+            let answers = [first, second, third, fourth];
+            play_round(manager, answers, image, store, out, at)
+        }
+    }
 }

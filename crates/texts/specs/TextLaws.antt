@@ -1,10 +1,11 @@
 -- Laws of the digits.
-use Prim.Native.Nat.{ℕ, zero, suc, _+_, _-_, _*_, _^_, _≤_, _<_}
-use mathlib.Core.Path.{_≡_, refl, ap}
+use Prim.Native.Nat.{ℕ, zero, suc, _+_, _-_, _*_, _/_, _^_, _≤_, _<_}
+use mathlib.Core.Path.{_≡_, refl, sym, ap, _∙_}
 use mathlib.Core.List.{List, [], _∷_, _++_, append-assoc, append-nil}
 use native.Mathlib.Nat.{pow-suc, pow-le-pow-right}
 use native.Mathlib.Numerals.{add-one}
 use native.Mathlib.Omega.{arith}
+use borrow.Author.Tests.{le-leb, lt-leb}
 use lib.ListN.{length, take}
 use Rattle.arith.specs.Bounded.{sum, sum-bound, sum-more}
 use Rattle.arith.specs.Cases.{by-leb}
@@ -14,9 +15,17 @@ use Rattle.texts.specs.Texts.{digitOf, digitsOf, reaches, digitCount, de
 pub power-more : (i : ℕ) → 10 ^ (i + 1) ≡ 10 ^ i * 10
 power-more i = rw (add-one, pow-suc)
 
--- 10^19 fits 64 bits
-pub power-few : (i : ℕ) → i < 19 → 10 ^ i ≤ 1000000000000000000
-power-few i h = pow-le-pow-right {n = 10} (omega arith) {i = i} {j = 18} (omega arith)
+-- a power of ten that fits 64 bits has at most 19 zeros
+pub power-fits : (i n : ℕ) → 10 ^ i ≤ n → n < 18446744073709551616 → i ≤ 19
+power-fits i n h k = by-leb i 19 (λ _ f. f) (λ _ f. absurd (omega (arith, pow-le-pow-right {n = 10} (omega arith) {i = 20} {j = i} (omega arith))))
+
+-- the power of the digit behind
+pub power-first : (k : ℕ) → 10 ^ k ≡ 10 ^ (k + 1) / 10
+power-first k = rw (power-more k) (omega arith)
+
+pub power-less : (m : ℕ) → 0 < m → 10 ^ m / 10 ≡ 10 ^ (m - 1)
+power-less zero h = absurd (omega arith)
+power-less (suc m) h = let e : suc m - 1 ≡ m = omega arith in let p : 10 ^ suc m ≡ 10 ^ m * 10 = pow-suc 10 m in rw (e, p) (omega arith)
 
 pub length-digits : (k n : ℕ) → length (digitsOf k n) ≡ k
 unfolding digitsOf
@@ -34,15 +43,29 @@ pub decimal-count : (n : ℕ) → length (decimal n) ≡ digitCount n
 unfolding decimal
 decimal-count n = length-digits (digitCount n) n
 
-pub length-decimal : (n : ℕ) → length (decimal n) ≤ 20
-length-decimal n = omega (arith, decimal-count n, count-few n)
-
 pub power-some : (k : ℕ) → 0 < 10 ^ k
 power-some k = omega (arith, pow-le-pow-right {n = 10} (omega arith) {i = 0} {j = k} (omega arith))
 
--- the turn of the loop that counts digits
-pub count-more : (n k : ℕ) → sum (λ i. reaches (10 ^ (i + 1)) n) (k + 1) ≡ sum (λ i. reaches (10 ^ (i + 1)) n) k + reaches (10 ^ (k + 1)) n
-count-more n k = sum-more (λ i. reaches (10 ^ (i + 1)) n) k
+-- the turn of the loop that counts digits, and its end
+abbrev pub reached : ℕ → ℕ → ℕ
+reached n k = sum (λ i. reaches (10 ^ (i + 1)) n) k
+
+pub count-more : (n k : ℕ) → 10 ^ (k + 1) ≤ n → k ≡ reached n k → k + 1 ≡ reached n (k + 1)
+count-more n k h e = rw (sum-more (λ i. reaches (10 ^ (i + 1)) n) k, ← e, le-leb _ _ h)
+
+reached-all : (n k d : ℕ) → n < 10 ^ (k + 1) → reached n (k + d) ≡ reached n k
+reached-all n k zero h = ap (reached n) (omega arith)
+reached-all n k (suc d) h =
+    let e : k + suc d ≡ k + d + 1 = omega arith in
+    let few : n < 10 ^ (k + d + 1) = omega (arith, pow-le-pow-right {n = 10} (omega arith) {i = k + 1} {j = k + d + 1} (omega arith)) in
+    rw (e, sum-more (λ i. reaches (10 ^ (i + 1)) n) (k + d), lt-leb _ _ few, reached-all n k d h) (omega arith)
+
+pub count-all : (n k : ℕ) → n < 10 ^ (k + 1) → k ≤ 19 → k ≡ reached n k → k + 1 ≡ digitCount n
+unfolding digitCount
+count-all n k h few e =
+    let f : k + (19 - k) ≡ 19 = omega arith in
+    let g : reached n 19 ≡ reached n k = ap (reached n) (sym f) ∙ reached-all n k (19 - k) h in
+    omega (arith, e, g)
 
 -- the turn of the loop that writes them: k digits were left, and one less is
 pub digits-more : (k n : ℕ) → 0 < k → digitsOf k n ≡ digitOf n (k - 1) ∷ digitsOf (k - 1) n

@@ -4,7 +4,7 @@ ghost use mathlib.Core.List.{[], _∷_};
 ghost use Prim.Native.Nat.{_+_, _/_, _%_, _^_, _≤_, _<_};
 ghost use lib.ListN.{length};
 ghost use Rattle.texts.specs.Appended.{Appended};
-ghost use Rattle.texts.specs.Texts.{behind, digitOf, reaches, digitCount, decimal, numberLine, questionLine, infoLine, freeText, lockedText, requestText};
+ghost use Rattle.texts.specs.Texts.{behind, digitCount, decimal, numberLine, questionLine, infoLine, freeText, lockedText, requestText};
 use memory::JobResult;
 use state::Waits;
 
@@ -17,47 +17,29 @@ pub fn push(out: &mut [u8], at: usize, byte: u8) -> usize
     at + 1
 }
 
-fn power_of_ten(k: usize) -> u64
-    requires { ⌜ k ≤ 19 ⌝ }
-    ensures { λ r. ⌜ r ≡ 10 ^ k ⌝ }
+// The place of a number's first digit: how many digits stand behind it, and its power of ten.
+struct Place {
+    behind: usize,
+    power: u64,
+}
+
+fn first_place(n: u64) -> Place
+    ensures { λ r. ⌜ (r .behind + 1 ≡ digitCount n) × (r .power ≡ 10 ^ r .behind) ⌝ }
 {
+    let mut behind = 0;
     let mut power: u64 = 1;
-    let mut i = 0;
-    while i < k {
+    while power <= n / 10 {
         power *= 10;
-        i += 1;
+        behind += 1;
     }
-    power
+    Place { behind, power }
 }
 
-fn reaches(power: u64, n: u64) -> usize
-    ensures { λ r. ⌜ (r ≡ reaches power n) × (r ≤ 1) ⌝ }
+fn digit_at(n: u64, power: u64) -> u8
+    requires { ⌜ 0 < power ⌝ }
+    ensures { λ r. ⌜ r ≡ 48 + n / power % 10 ⌝ }
 {
-    if power <= n {
-        return 1;
-    }
-    0
-}
-
-fn digit_count(n: u64) -> usize
-    ensures { λ r. ⌜ r ≡ digitCount n ⌝ }
-{
-    let mut count = 1;
-    let mut power: u64 = 1;
-    let mut k: usize = 0;
-    while k < 19 {
-        power *= 10;
-        count += reaches(power, n);
-        k += 1;
-    }
-    count
-}
-
-fn digit_of(n: u64, k: usize) -> u8
-    requires { ⌜ k ≤ 19 ⌝ }
-    ensures { λ r. ⌜ r ≡ digitOf n k ⌝ }
-{
-    let digit = n / power_of_ten(k) % 10;
+    let digit = n / power % 10;
     48 + digit as u8
 }
 
@@ -66,12 +48,15 @@ pub fn push_number(out: &mut [u8], at: usize, n: u64) -> usize
     requires { ⌜ at + 20 ≤ length (now out) ⌝ }
     ensures { λ r. ⌜ (Appended (now (out .entry)) (now (out .exit)) at r (decimal n)) × (r ≤ at + 20) ⌝ }
 {
-    let mut left = digit_count(n);
+    let place = first_place(n);
+    let mut left = place.behind + 1;
+    let mut power = place.power;
     let mut end = at;
     while 0 < left {
-        left -= 1;
-        let digit = digit_of(n, left);
+        let digit = digit_at(n, power);
         end = push(out, end, digit);
+        power /= 10;
+        left -= 1;
     }
     end
 }

@@ -1,10 +1,8 @@
-use mathlib.Core.Path.{ap, _∙_}
-use lib.ListN.{length}
-use native.Mathlib.Omega.{arith}
-use Rattle.requests.specs.Effects.{memoryOf}
-use Rattle.manager.specs.Load.{loadedManager}
+use Rattle.session.specs.FoldLaws.{all-refused, all-lines}
 use Rattle.session.specs.Fold.{Session}
-use Rattle.session.specs.FoldLaws.{all-full, all-refused, all-lines, session-parts}
+use Rattle.requests.specs.Effects.{memoryOf}
+use native.Mathlib.Omega.{arith}
+use mathlib.Core.Path.{ap}
 use borrow.Author.Needs.{needs}
 use Rattle.session.proofs.play_all.Statement.{statement}
 use Rattle.session.proofs.play_all.Tie as tie
@@ -13,22 +11,17 @@ use Rattle.session.proofs.play_all.Lts as lts
 use Rattle.session.proofs.fold.play_lines.Reads as play-lines-reads
 use Rattle.session.proofs.open.Reads as open-reads
 
-returns : tie.Need-returns
-returns c = let a = c .before .before .before .before .before .before .args in
-    let p = session-parts (loadedManager (a .plan .now)) (a .image .now) (a .store .now) (a .out .now) 0 0 _ (all-full (a .plan .now) (a .input .now) (length (a .out .now)) (memoryOf (a .image .now) (a .store .now)) (c .if1 .taken)) in
-    (p .0, (p .1, (p .2, (p .3, (omega arith, omega arith)))))
-
 open-requires : tie.Need-open-requires
 open-requires c κs = search needs
 
 same-length : tie.Need-same-length
 same-length c = search needs
 
-returns-2 : tie.Need-returns-2
-returns-2 c = let a = c .before .before .before .before .before .before .before .before .before .before .before .before .args in
+returns : tie.Need-returns
+returns c = let a = c .before .before .before .before .before .before .before .before .before .before .before .args in
     let o = c .before .before .before .before .«open» .ensures .1 .0 in
-    let e = all-refused (a .plan .now) (a .input .now) (length (a .out .now)) (memoryOf (a .image .now) (a .store .now)) (c .before .before .before .before .before .before .if1 .left) (omega (arith, o .0 .ends, c .if2 .taken)) in
-    (ap (λ (x : Session). x .memory .image) e, (ap (λ (x : Session). x .memory .store) e, (o .0 .bytes ∙ ap (λ (x : Session). x .printed) e, (ap (λ (x : Session). x .used) e, (omega arith, omega (arith, o .1, o .0 .long))))))
+    let e = all-refused (a .plan .now) (a .input .now) (memoryOf (a .image .now) (a .store .now)) (o .0) (c .if1 .taken) in
+    (ap (λ (x : Session). x .memory .image) e, (ap (λ (x : Session). x .memory .store) e, (ap (λ (x : Session). x .printed) e, (ap (λ (x : Session). x .used) e, (omega arith, o .1)))))
 
 play-lines-requires : tie.Need-play-lines-requires
 play-lines-requires c κs = search needs
@@ -42,23 +35,22 @@ same-length-3 c = search needs
 same-length-4 : tie.Need-same-length-4
 same-length-4 c = search needs
 
-returns-3 : tie.Need-returns-3
-returns-3 c = let a = c .before .before .before .before .before .before .before .before .before .before .before .before .before .before .before .before .before .before .before .before .before .before .before .args in
+returns-2 : tie.Need-returns-2
+returns-2 c = let a = c .before .before .before .before .before .before .before .before .before .before .before .before .before .before .before .before .before .before .before .before .before .before .args in
     let o = c .before .before .before .before .before .before .before .before .before .before .before .before .before .before .before .«open» .ensures in
     let l = c .before .before .before .before .before .before .play-lines .ensures in
-    let e = all-lines (a .plan .now) (a .input .now) (a .image .now) (a .store .now) _ _ (o .0) (o .1 .0 .0) (c .before .before .before .before .before .before .before .before .before .before .before .before .before .before .before .before .before .if1 .left) (c .before .before .before .before .before .before .before .before .before .before .before .if2 .left) (l .0) in
+    let e = all-lines (a .plan .now) (a .input .now) (a .image .now) (a .store .now) _ _ (o .0) (o .1 .0 .0) (c .before .before .before .before .before .before .before .before .before .before .before .if1 .left) (l .0) in
     (ap (λ (x : Session). x .memory .image) e, (ap (λ (x : Session). x .memory .store) e, (ap (λ (x : Session). x .printed) e, (ap (λ (x : Session). x .used) e, (l .1 .1, l .1 .0)))))
 
 pub play-all-spec : {M : Type 1} → statement M
 play-all-spec =
     tie.close
     (tie.spec
-    returns
     open-requires
     same-length
-    returns-2
+    returns
     play-lines-requires
     same-length-2
     same-length-3
     same-length-4
-    returns-3)
+    returns-2)

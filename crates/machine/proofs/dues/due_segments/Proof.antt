@@ -2,11 +2,11 @@ use Rattle.plan.specs.Questions.{areaOf}
 use Rattle.machine.specs.Sound.{jobIn}
 use lib.ListN.{set, replicate}
 use Prim.Native.Nat.{_-_, _≤_}
-use mathlib.Core.Path.{_≡_, refl, sym, ap, _∙_}
+use mathlib.Core.Path.{_≡_, sym, ap, _∙_}
 use native.Mathlib.Omega.{arith}
 use Rattle.segment.specs.Segments.{noSegment}
 use Rattle.arith.specs.Tables.{table, table-more}
-use Rattle.machine.specs.Dues.{dueOf, duesOf, due-index, due-inside, due-turn, fitsIn}
+use Rattle.machine.specs.Dues.{dueOf, duesOf, due-index, due-inside, due-turn}
 use borrow.Author.Needs.{needs}
 use Rattle.machine.proofs.dues.due_segments.Statement.{statement}
 use Rattle.machine.proofs.dues.due_segments.Tie as tie

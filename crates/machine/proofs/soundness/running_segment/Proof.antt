@@ -1,5 +1,5 @@
 use mathlib.Core.Path.{_∙_}
-use borrow.Author.Tests.{le-leb, lt-leb, lt-ltb, le-ltb}
+use borrow.Author.Tests.{lt-ltb, le-ltb}
 use borrow.Author.Needs.{needs}
 use Rattle.machine.proofs.soundness.running_segment.Statement.{statement}
 use Rattle.machine.proofs.soundness.running_segment.Tie as tie

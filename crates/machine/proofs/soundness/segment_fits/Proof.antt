@@ -1,7 +1,7 @@
 use mathlib.Core.Path.{sym, _∙_}
 use native.Mathlib.Omega.{arith}
 use Rattle.machine.specs.Sound.{other-device, past-image, past-job, no-window, window-decides}
-use borrow.Author.Tests.{eq-eqb, le-ltb, lt-ltb, ne-eqb, not-true, not-false}
+use borrow.Author.Tests.{not-true, not-false}
 use borrow.Author.Needs.{needs}
 use Rattle.machine.proofs.soundness.segment_fits.Statement.{statement}
 use Rattle.machine.proofs.soundness.segment_fits.Tie as tie

@@ -1,12 +1,14 @@
 use native.Mathlib.Omega.{arith}
 use mathlib.Core.Path.{_∙_}
-use Rattle.session.specs.PlayLaws.{number-same}
+use Rattle.session.specs.Play.{afterCall}
+use Rattle.session.specs.PlayLaws.{kept-played, call-keeps, number-same}
 use borrow.Author.Needs.{needs}
 use Rattle.session.proofs.play.play_call.Statement.{statement}
 use Rattle.session.proofs.play.play_call.Tie as tie
 use Rattle.session.proofs.play.play_call.Reads as reads
 use Rattle.session.proofs.play.play_call.Lts as lts
 use Rattle.memory.proofs.Admission.number.Reads as number-reads
+use Rattle.session.proofs.play.Played.of.Reads as of-reads
 use Rattle.session.proofs.play.make.Reads as make-reads
 use Rattle.texts.proofs.number_line.Reads as number-line-reads
 
@@ -22,12 +24,16 @@ cast-number-line c = search needs
 number-line-requires : tie.Need-number-line-requires
 number-line-requires c κs = search needs
 
+of-requires : tie.Need-of-requires
+of-requires c κs = search needs
+
 same-length : tie.Need-same-length
 same-length c = search needs
 
 returns : tie.Need-returns
-unfolding Rattle.texts.specs.Texts.numberLine
-returns c = (c .before .before .before .before .before .before .make .ensures .1, number-same (c .before .before .before .before .before .number .ensures ∙ c .before .before .before .before .before .before .make .ensures .0) (c .before .before .number-line .ensures .0), omega arith)
+returns c = let a = c .before .before .before .before .before .before .before .before .before .args in
+    let m = c .before .before .before .before .before .before .before .make .ensures in
+    kept-played (a .manager) _ (afterCall (a .call) (a .manager)) _ (c .of .ensures) (m .1) (call-keeps (a .call) (a .manager)) (number-same (c .before .before .before .before .before .before .number .ensures ∙ m .0) (c .before .before .before .number-line .ensures .0)) (omega arith)
 
 pub play-call-spec : {M : Type 1} → statement M
 play-call-spec =
@@ -37,5 +43,6 @@ play-call-spec =
     number-requires
     cast-number-line
     number-line-requires
+    of-requires
     same-length
     returns)
