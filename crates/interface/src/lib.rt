@@ -1,5 +1,6 @@
 // What C and Rust see of a manager: structs in C's layout, with the papers' number in the place of each enum.
 ghost use mathlib.Core.Path.{_≡_};
+ghost use Prim.Native.Nat.{_≤_};
 ghost use lib.ListN.{length, take};
 ghost use Rattle.requests.specs.Effects.{memoryOf};
 ghost use Rattle.session.specs.Fold.{playedAll};
@@ -169,7 +170,7 @@ pub struct SessionView {
     pub written: usize,
 }
 
-// A whole session of the bench on lent buffers (session::play_all).
+// A whole session of the bench on lent buffers (session::play_all). Left open are the bytes of the output behind those written.
 #[no_mangle]
 pub extern "C" fn luvdrog_session(
     plan: &[u8],
@@ -182,6 +183,7 @@ pub extern "C" fn luvdrog_session(
     ensures { λ _. ⌜ now (store .exit) ≡ playedAll (now (plan .entry)) (now (input .entry)) (length (now (out .entry))) (memoryOf (now (image .entry)) (now (store .entry))) .memory .store ⌝ }
     ensures { λ r. ⌜ take (r .written) (now (out .exit)) ≡ playedAll (now (plan .entry)) (now (input .entry)) (length (now (out .entry))) (memoryOf (now (image .entry)) (now (store .entry))) .printed ⌝ }
     ensures { λ r. ⌜ r .used ≡ playedAll (now (plan .entry)) (now (input .entry)) (length (now (out .entry))) (memoryOf (now (image .entry)) (now (store .entry))) .used ⌝ }
+    ensures { λ r. ⌜ (r .used ≤ length (now (input .entry))) × (r .written ≤ length (now (out .exit))) ⌝ }
 {
     let counts = play_all(plan, input, image, store, out);
     SessionView {

@@ -18,7 +18,7 @@ same-length-3 : tie.Need-same-length-3
 same-length-3 c = search needs
 
 returns : tie.Need-returns
-returns c = (c .before .before .before .before .before .before .play-all .ensures .0, (c .before .before .before .before .before .before .play-all .ensures .1 .0, (c .before .before .before .before .before .before .play-all .ensures .1 .1 .0, c .before .before .before .before .before .before .play-all .ensures .1 .1 .1 .0)))
+returns c = (c .before .before .before .before .before .before .play-all .ensures .0, (c .before .before .before .before .before .before .play-all .ensures .1 .0, (c .before .before .before .before .before .before .play-all .ensures .1 .1 .0, (c .before .before .before .before .before .before .play-all .ensures .1 .1 .1 .0, c .before .before .before .before .before .before .play-all .ensures .1 .1 .1 .1))))
 
 pub luvdrog-session-spec : {M : Type 1} → statement M
 luvdrog-session-spec =
