@@ -1,13 +1,13 @@
 -- A round finds the due segments of all pending jobs once: the soundness test with them is question 9.
 use Prim.Native.Nat.{ℕ, _+_, _-_, _≤_, _<_}
-use mathlib.Core.Bool.{Bool, true}
+use mathlib.Core.Bool.{Bool, true, false, true≢false}
 use mathlib.Core.List.{List}
 use mathlib.Core.Path.{_≡_, refl, sym, ap, fun-ext, _∙_}
 use native.Mathlib.Omega.{arith}
 use borrow.Author.Tests.{le-ltb}
 use lib.Dec.{ltb}
 use lib.ListN.{getD}
-use Rattle.arith.specs.Bounded.{every}
+use Rattle.arith.specs.Bounded.{every, some, every-intro, some-intro}
 use Rattle.arith.specs.Cases.{pick, by-bool, by-ltb}
 use Rattle.arith.specs.Tables.{table, table-at}
 use Rattle.plan.specs.Questions.{areaOf, subAreaOf, deviceOf, lengthSum, countsFit}
@@ -74,6 +74,27 @@ unfolding duesOf
 dues-found p areas a h e =
     table-at 8 (dueOf (p .«sub_areas») (p .«sub_area_count») (p .areas) areas) noSegment 8 a noSegment h (omega arith)
     ∙ rw e (segment-from p a (jobIn areas a .task) (jobIn areas a .processed))
+
+pub counts-few : (p : Plan) → countsFit (p .«device_count») (p .«area_count») (p .«sub_area_count») ≡ true →
+    (p .«device_count» ≤ 4) × (p .«area_count» ≤ 8) × (p .«sub_area_count» ≤ 32)
+counts-few p e = let few = counts _ _ _ e in (few .0 .1, few .1 .0 .1, few .1 .1 .1)
+
+abbrev pub isRunning : DeviceState → Bool
+isRunning Free = false
+isRunning (LockedFor a) = false
+isRunning (Runs a polls) = true
+
+-- where nothing runs, every device passes
+pub none-runs : (p : Plan) (areas : List Area) (devices : List Device) → countsFit (p .«device_count») (p .«area_count») (p .«sub_area_count») ≡ true →
+    some (λ d. isRunning (stateIn devices d)) 4 ≡ false → true ≡ isSound p areas devices
+none-runs p areas devices e none =
+    sym (every-intro (λ d. stateSound p d (jobIn areas) (stateIn devices d)) (p .«device_count») λ d h. passes d (omega (arith, h, counts-few p e .0)) (stateIn devices d) refl)
+    ∙ devices-decide p areas devices e
+  where
+    passes : (d : ℕ) → d < 4 → (x : DeviceState) → stateIn devices d ≡ x → stateSound p d (jobIn areas) x ≡ true
+    passes d h Free f = refl
+    passes d h (LockedFor a) f = refl
+    passes d h (Runs a polls) f = absurd (true≢false (sym (some-intro (λ k. isRunning (stateIn devices k)) 4 d h (ap isRunning f)) ∙ none))
 
 -- the area whose request a device runs
 abbrev pub runnerOf : DeviceState → ℕ
@@ -144,7 +165,3 @@ module _ (p : Plan) (few : p .«area_count» ≤ 8) (areas : List Area) (devices
 -- what the questions of a round leave to it
 abbrev pub DueIfSound : Plan → List Area → List Device → List Segment → Type 0
 DueIfSound p areas devices dues = isSound p areas devices ≡ true → Due p dues (jobIn areas)
-
-pub counts-few : (p : Plan) → countsFit (p .«device_count») (p .«area_count») (p .«sub_area_count») ≡ true →
-    (p .«device_count» ≤ 4) × (p .«area_count» ≤ 8) × (p .«sub_area_count» ≤ 32)
-counts-few p e = let few = counts _ _ _ e in (few .0 .1, few .1 .0 .1, few .1 .1 .1)

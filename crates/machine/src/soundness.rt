@@ -1,9 +1,9 @@
 // Question 9: the soundness test.
 ghost use mathlib.Core.Path.{_≡_};
 ghost use Prim.Native.Nat.{_+_, _≤_, _<_};
-ghost use Rattle.arith.specs.Bounded.{every};
+ghost use Rattle.arith.specs.Bounded.{every, some};
 ghost use Rattle.machine.specs.Sound.{jobRuns, segmentFits, stateSound, jobIn, stateIn, isSound};
-ghost use Rattle.machine.specs.Dues.{runnerOf, stateFits, runningSegment};
+ghost use Rattle.machine.specs.Dues.{runnerOf, stateFits, runningSegment, isRunning};
 use admission::uses_window;
 use jobs::is_pending;
 use plan::checks::counts_fit;
@@ -158,11 +158,40 @@ fn devices_sound(plan: Plan, areas: [Area; 8], devices: [Device; 4]) -> bool
     true
 }
 
+fn is_running(state: DeviceState) -> bool
+    ensures { λ r. ⌜ r ≡ isRunning state ⌝ }
+{
+    match state {
+        DeviceState::Free => false,
+        DeviceState::LockedFor(_) => false,
+        DeviceState::Runs { area: _, polls: _ } => true,
+    }
+}
+
+fn any_runs(devices: [Device; 4]) -> bool
+    ensures { λ r. ⌜ r ≡ some (λ d. isRunning (stateIn devices d)) 4 ⌝ }
+{
+    let mut d = 0;
+    while d < 4 {
+        let device = devices[d];
+        let state = device.state;
+        if is_running(state) {
+            return true;
+        }
+        d += 1;
+    }
+    false
+}
+
+// Where no request runs, none is to be tested, and the plan is not looked at.
 pub fn is_sound(plan: Plan, areas: [Area; 8], devices: [Device; 4]) -> bool
     ensures { λ r. ⌜ r ≡ isSound plan areas devices ⌝ }
 {
     if !counts_fit(plan.device_count, plan.area_count, plan.sub_area_count) {
         return false;
+    }
+    if !any_runs(devices) {
+        return true;
     }
     devices_sound(plan, areas, devices)
 }
