@@ -11,7 +11,6 @@ use Rattle.arith.specs.Bounded.{every, some, every-intro, some-intro}
 use Rattle.arith.specs.Cases.{pick, by-bool, by-ltb}
 use Rattle.arith.specs.Tables.{table, table-at}
 use Rattle.plan.specs.Questions.{areaOf, subAreaOf, deviceOf, lengthSum, countsFit}
-use Rattle.plan.specs.SizeLaws.{counts}
 use Rattle.plan.specs.declared.records.AreaRecord.{AreaRecord}
 use Rattle.plan.specs.declared.records.DeviceRecord.{DeviceRecord}
 use Rattle.plan.specs.declared.records.Plan.{Plan}
@@ -28,7 +27,7 @@ use Rattle.state.specs.declared.Device.{Device}
 use Rattle.state.specs.declared.DeviceState.{DeviceState}
 use Rattle.state.specs.declared.DeviceState.the-variants.{Free, Runs, LockedFor}
 use Rattle.state.specs.declared.Job.{Job}
-use Rattle.machine.specs.Sound.{jobRuns, requestFits, requestSound, stateSound, jobIn, stateIn, isSound, devices-decide}
+use Rattle.machine.specs.Sound.{jobRuns, requestFits, requestSound, stateSound, jobIn, stateIn, isSound, devices-decide, counts-few}
 
 abbrev pub dueFound : List SubAreaRecord → ℕ → ℕ → ℕ → Job → Found
 dueFound l n start a j = pick (isPending j) (located l n start a (j .task .address .0 + j .processed)) Outside
@@ -74,10 +73,6 @@ unfolding duesOf
 dues-found p areas a h e =
     table-at 8 (dueOf (p .«sub_areas») (p .«sub_area_count») (p .areas) areas) noSegment 8 a noSegment h (omega arith)
     ∙ rw e (segment-from p a (jobIn areas a .task) (jobIn areas a .processed))
-
-pub counts-few : (p : Plan) → countsFit (p .«device_count») (p .«area_count») (p .«sub_area_count») ≡ true →
-    (p .«device_count» ≤ 4) × (p .«area_count» ≤ 8) × (p .«sub_area_count» ≤ 32)
-counts-few p e = let few = counts _ _ _ e in (few .0 .1, few .1 .0 .1, few .1 .1 .1)
 
 abbrev pub isRunning : DeviceState → Bool
 isRunning Free = false

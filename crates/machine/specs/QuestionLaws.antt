@@ -8,10 +8,8 @@ use lib.Dec.{ltb, leb, eqb}
 use lib.ListN.{length}
 use Rattle.arith.specs.Cases.{pick}
 use Rattle.arith.specs.FirstNo.{firstNo}
-use Rattle.arith.specs.Plain.{and-plain}
 use Rattle.memory.specs.declared.Task.{Task}
 use Rattle.plan.specs.Questions.{lengthSum}
-use Rattle.plan.specs.SizeLaws.{counts}
 use Rattle.plan.specs.declared.records.Plan.{Plan}
 use Rattle.rules.specs.Admission.{rangeQuestions, jobQuestions, imageFits, storeReaches, roundNumber}
 use Rattle.rules.specs.Machine.{Core, isPending}
@@ -48,11 +46,6 @@ module _ (p : Plan) (c : Core) (a : ℕ) (t : Task) where
     pub job-busy : ltb a (p .«area_count») ≡ true → isPending (c .jobs a) ≡ true → 11 ≡ firstNo 9 (sound ∷ jobQuestions p c a t)
     unfolding firstNo jobQuestions
     job-busy e f = rw (yes, e, f)
-
--- a sound state has no more devices than the array holds
-pub sound-devices : (p : Plan) (areas : List Area) (devices : List Device) → isSound p areas devices ≡ true → p .«device_count» ≤ 4
-unfolding isSound
-sound-devices p areas devices e = counts _ _ _ ((simp and-plain at e) .0) .0 .1
 
 -- question 18, with the sum of the lengths
 pub image-fits : (p : Plan) (image : List ℕ) (s : ℕ) → s ≡ lengthSum (p .devices) (p .«device_count») → eqb (length image) s ≡ imageFits p image

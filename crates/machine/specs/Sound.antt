@@ -78,13 +78,19 @@ module _ (p : Plan) (areas : List Area) (devices : List Device) where
   unfolding isSound
   devices-decide e = rw e
 
--- a sound state has counts in the bounds of the arrays
-pub sound-few : (p : Plan) (areas : List Area) (devices : List Device) → isSound p areas devices ≡ true →
-    (p .«area_count» ≤ 8) × (p .«sub_area_count» ≤ 32)
+-- the counts of a sound state are in the bounds of the arrays
+pub counts-few : (p : Plan) → countsFit (p .«device_count») (p .«area_count») (p .«sub_area_count») ≡ true →
+    (p .«device_count» ≤ 4) × (p .«area_count» ≤ 8) × (p .«sub_area_count» ≤ 32)
+counts-few p e = let few = counts _ _ _ e in (few .0 .1, few .1 .0 .1, few .1 .1 .1)
+
+pub sound-counts : (p : Plan) (areas : List Area) (devices : List Device) → isSound p areas devices ≡ true →
+    (p .«device_count» ≤ 4) × (p .«area_count» ≤ 8) × (p .«sub_area_count» ≤ 32)
 unfolding isSound
-sound-few p areas devices e =
-    let few = counts _ _ _ ((simp and-plain at e) .0) in
-    (few .1 .0 .1, few .1 .1 .1)
+sound-counts p areas devices e = counts-few p ((simp and-plain at e) .0)
+
+-- without the devices
+pub sound-few : (p : Plan) (areas : List Area) (devices : List Device) → isSound p areas devices ≡ true → (p .«area_count» ≤ 8) × (p .«sub_area_count» ≤ 32)
+sound-few p areas devices e = let few = sound-counts p areas devices e in (few .1, few .2)
 
 -- the test by the cases that the code takes apart
 module _ (n w d : ℕ) (j : Job) (s : Segment) where

@@ -12,7 +12,6 @@ use Rattle.arith.specs.Plain.{and-plain}
 use Rattle.machine.specs.Arrays.{job-set, state-set}
 use Rattle.machine.specs.Sound.{jobIn, stateIn, coreIn, segmentFits, requestSound, stateSound, isSound}
 use Rattle.memory.specs.declared.DeviceAnswer.{DeviceAnswer}
-use Rattle.plan.specs.SizeLaws.{counts}
 use Rattle.plan.specs.declared.records.Plan.{Plan}
 use Rattle.rules.specs.Admission.{imageFits, storeReaches}
 use Rattle.rules.specs.Layout.{layoutOf}
@@ -109,12 +108,6 @@ later-sound p answers h all (suc n) k l m =
 
 -- what a sound state has for the loop
 module _ (p : Plan) (areas : List Area) (devices : List Device) (sound : isSound p areas devices ≡ true) where
-  pub sound-counts : (p .«sub_area_count» ≤ 32) × (p .«area_count» ≤ 8) × (p .«device_count» ≤ 4)
-  unfolding isSound
-  sound-counts =
-      let few = counts _ _ _ ((simp and-plain at sound) .0) in
-      (few .1 .1 .1, few .1 .0 .1, few .0 .1)
-
   pub turn-sound : (answers : List DeviceAnswer) (m : Memory) (n : ℕ) (c : Core) → c ≡ takeAll p answers n (lentTo areas devices m) .core → n < p .«device_count» →
       stateSound p n (c .jobs) (c .devices n) ≡ true
   unfolding isSound

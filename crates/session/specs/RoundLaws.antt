@@ -7,7 +7,7 @@ use native.Mathlib.Omega.{arith}
 use borrow.Author.Tests.{eq-eqb, ne-eqb}
 use Rattle.arith.specs.Cases.{by-bool}
 use Rattle.arith.specs.Tables.{table-at}
-use Rattle.machine.specs.Sound.{isSound, stateIn}
+use Rattle.machine.specs.Sound.{isSound, stateIn, sound-counts}
 use Rattle.manager.specs.Calls.{coreOf, roundNumberOf, afterRound}
 use Rattle.manager.specs.declared.Manager.{Manager}
 use Rattle.memory.specs.declared.DeviceAnswer.{DeviceAnswer}
@@ -15,7 +15,7 @@ use Rattle.rounds.specs.Close.{deviceAfter, devicesAfter, lentTo, halvesOf}
 use Rattle.rules.specs.Machine.{Core}
 use Rattle.rules.specs.Memory.{Memory}
 use Rattle.rules.specs.Round.{roundHalves}
-use Rattle.shown.specs.Known.{AllBelow, runs-more, round-below, sound-below, sound-counts}
+use Rattle.shown.specs.Known.{AllBelow, runs-more, round-below, sound-below}
 use Rattle.shown.specs.Shown.{devicesLine}
 use Rattle.state.specs.Fresh.{freeDevice}
 use Rattle.state.specs.declared.Device.{Device}

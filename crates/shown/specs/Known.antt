@@ -12,7 +12,6 @@ use Rattle.arith.specs.Parts.{upd-case}
 use Rattle.arith.specs.Plain.{and-plain}
 use Rattle.machine.specs.Sound.{isSound, requestSound, stateSound, jobIn, stateIn}
 use Rattle.memory.specs.declared.DeviceAnswer.{DeviceAnswer}
-use Rattle.plan.specs.SizeLaws.{counts}
 use Rattle.plan.specs.declared.records.Plan.{Plan}
 use Rattle.rules.specs.Layout.{Layout, layoutOf}
 use Rattle.rules.specs.Machine.{Core, Verdict, goesOn, finished, differs, failed, takeRunning, takeOn, takeAnswer, Choice, nobody, area, better, ready, best, startJob, startChoice, startOn, start, secondHalf}
@@ -126,11 +125,3 @@ unfolding isSound
 sound-below p areas devices e d h =
     state-below p d (jobIn areas) (stateIn devices d)
     (every-elim (λ d. stateSound p d (jobIn areas) (stateIn devices d)) (p .«device_count») ((simp and-plain at e) .1) d h)
-
--- and that the counts fit the arrays
-pub sound-counts : (p : Plan) (areas : List Area) (devices : List Device) → isSound p areas devices ≡ true →
-    (p .«device_count» ≤ 4) × (p .«area_count» ≤ 8) × (p .«sub_area_count» ≤ 32)
-unfolding isSound
-sound-counts p areas devices e =
-    let few = counts _ _ _ ((simp and-plain at e) .0) in
-    (few .0 .1, few .1 .0 .1, few .1 .1 .1)

@@ -2,7 +2,7 @@ use mathlib.Core.Path.{ap, _∙_, sym}
 use lib.ListN.{length-map}
 use Rattle.requests.specs.Effects.{memoryOf}
 use Rattle.rounds.specs.NeedLaws.{whole-areas, whole-devices, whole-memory}
-use Rattle.rounds.specs.AnswerLaws.{sound-counts}
+use Rattle.machine.specs.Sound.{sound-counts}
 use borrow.Author.Needs.{needs}
 use Rattle.rounds.proofs.halves.run_round.Statement.{statement}
 use Rattle.rounds.proofs.halves.run_round.Tie as tie
@@ -20,7 +20,7 @@ needed-devices-requires : tie.Need-needed-devices-requires
 needed-devices-requires c κs = search needs
 
 second-half-requires : tie.Need-second-half-requires
-second-half-requires c κs = let few = sound-counts (c .before .before .before .before .before .before .before .before .before .before .before .before .before .before .args .plan) (c .before .before .before .before .before .before .before .before .before .before .before .before .before .before .args .areas) (c .before .before .before .before .before .before .before .before .before .before .before .before .before .before .args .devices) (c .before .before .before .before .before .before .before .before .before .before .before .before .before .before .pre .0) in (few .1, few .2)
+second-half-requires c κs = let few = sound-counts (c .before .before .before .before .before .before .before .before .before .before .before .before .before .before .args .plan) (c .before .before .before .before .before .before .before .before .before .before .before .before .before .before .args .areas) (c .before .before .before .before .before .before .before .before .before .before .before .before .before .before .args .devices) (c .before .before .before .before .before .before .before .before .before .before .before .before .before .before .pre .0) in (few .1, few .0)
 
 close-requires : tie.Need-close-requires
 close-requires c κs = search needs
