@@ -1,3 +1,3 @@
 pub mod RangeLaws
 pub mod DeviceLaws
-pub mod LadderLaws
+pub mod AdmissionLaws

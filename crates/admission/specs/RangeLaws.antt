@@ -18,7 +18,7 @@ use Rattle.plan.specs.Questions.{areaOf, subAreaOf, areaSize}
 use Rattle.plan.specs.declared.records.Plan.{Plan}
 use Rattle.plan.specs.declared.records.SubAreaRecord.{SubAreaRecord}
 use Rattle.rules.specs.Admission.{isInside, startsOnUnit, endsOnUnit, isAligned}
-use Rattle.segment.specs.Found.{indexOf, Inside, segmentIf, if-found, located-mapped}
+use Rattle.segment.specs.Found.{indexOf, Inside, segmentIf, index-within, offset-inside, if-found, located-mapped}
 use Rattle.segment.specs.Mapping.{located, mapped}
 use Rattle.segment.specs.MappingLaws.{Place, mapped-place, place-mapped, place-of, place-before-end}
 use Rattle.segment.specs.Segments.{isLock, unitOf, retriesOf, segmentOf, segmentAt}
@@ -115,16 +115,14 @@ module _ (p : Plan) (a : ℕ) (address : LogicalAddress) (n : ℕ) where
 -- what was found lies in one of the records that a plan keeps, and no further in than its address
 module _ (p : Plan) (a x : ℕ) where
   pub mapped-index : p .«sub_area_count» ≤ 32 → (f : Found) → f ≡ mapped p a (record { 0 = x }) → indexOf f < 32
-  mapped-index h Outside e = omega arith
-  mapped-index h (At i y) e = let place = mapped-place p a x i y (sym e) in omega (arith, place .known)
+  mapped-index h f e = index-within (p .«sub_areas») a (p .«sub_area_count») (areaOf (p .areas) a .start .0) x f (e ∙ sym (located-mapped p a x)) h
 
   pub mapped-offset : (f : Found) → f ≡ mapped p a (record { 0 = x }) → offsetOf f ≤ x
   mapped-offset Outside e = omega arith
   mapped-offset (At i y) e = let place = mapped-place p a x i y (sym e) in omega (arith, place .is-at)
 
   pub mapped-inside : (f : Found) → f ≡ mapped p a (record { 0 = x }) → Inside (subAreaOf (p .«sub_areas») (indexOf f)) f
-  mapped-inside Outside e = tt
-  mapped-inside (At i y) e = mapped-place p a x i y (sym e) .inside
+  mapped-inside f e = offset-inside (p .«sub_areas») a (p .«sub_area_count») (areaOf (p .areas) a .start .0) x f (e ∙ sym (located-mapped p a x))
 
   -- n bytes end at a place: the first of them, if it is in the same sub-area
   pub back-mapped : (n : ℕ) (f : Found) → f ≡ mapped p a (record { 0 = x + n - 1 }) → 1 ≤ n → isFound (backFrom f (n - 1)) ≡ true →

@@ -3,7 +3,7 @@
 //
 // Its promises bound counts and leave open what is printed: they would have to speak of what a read brings and a write takes, of
 // which the C library's contracts say nothing. What a call of `play_lines` or `open` does is an equation (session); that the
-// calls made here add up to the whole session is shown by recorded runs, some with cut reads, and not by a proof.
+// calls made here add up to the whole session is shown by recorded runs, one with cut reads, and not by a proof.
 ghost use Prim.Native.Nat.{_+_, _≤_, _<_};
 ghost use lib.ListN.{length};
 use libc::STDIN_FILENO;

@@ -28,7 +28,8 @@ pub struct Arrays {
     pub devices: [Device; 4],
 }
 
-// What moves in the first half: the due segments of the pending jobs go with their jobs.
+// What moves in the first half: the due segments of the pending jobs go with their jobs. Left open are the waits, which the
+// close takes from before the round, and the segments of jobs that are not pending.
 pub struct FirstHalf {
     pub areas: [Area; 8],
     pub devices: [Device; 4],

@@ -197,7 +197,7 @@ fn start_choice(best: Best, entry: Area, device: Device) -> Start
     }
 }
 
-// The first devices pick, in their order.
+// The first devices pick, in their order. Left open are the waits, which the close takes from before the round.
 pub fn second_half(
     records: [AreaRecord; 8],
     count: usize,

@@ -1,6 +1,6 @@
 use Rattle.rules.specs.Admission.{fitsWindow}
 use Rattle.admission.specs.RangeLaws.{last-none, last-found, lock-first, inside-some, mapped-index, mapped-offset, aligned-ends, mapped-inside, first-retries}
-use Rattle.admission.specs.LadderLaws.{refuses, range-outside, range-split, accepts, range-locks, range-unaligned, range-long, range-fits}
+use Rattle.admission.specs.AdmissionLaws.{refuses, range-outside, range-split, accepts, range-locks, range-unaligned, range-long, range-fits}
 use native.Mathlib.Omega.{arith}
 use Prim.Native.Nat.{_+_, _-_}
 use borrow.Author.Tests.{not-false, not-true}

@@ -1,5 +1,5 @@
 use Rattle.machine.specs.QuestionLaws.{jobsAlone, job-unsound, job-unknown, job-busy, job-number}
-use Rattle.admission.specs.LadderLaws.{refuses}
+use Rattle.admission.specs.AdmissionLaws.{refuses}
 use native.Mathlib.Omega.{arith}
 use mathlib.Core.Path.{sym, _∙_}
 use borrow.Author.Tests.{not-true, not-false, lt-ltb, le-ltb}
