@@ -4,11 +4,11 @@ set -eu
 cd "$(dirname "$0")"
 . ./plan.sh
 
-# plan T, but for its device's length and patience
+# plan T, but for its device's length and patience and its areas' priorities
 plan_t() {
     device 0 "$1" "$2"
-    area 1 0 0 16
-    area 5 256 16 16
+    area "$3" 0 0 16
+    area "$4" 256 16 16
     sub_area 0 0 0 16 32 4 8 1 8 2 1 0
     sub_area 1 0 32 16 16 4 4 1 4 2 0 0
 }
@@ -41,11 +41,12 @@ keep() {
 }
 
 mode=${1:-write}
-plan_t 64 2 | keep plan-t/plan.bin
-plan_t 64 2 | keep ../crates/bench/data/plan.bin
-plan_t 64 2 | keep ../crates/bench_lines/data/plan.bin
-plan_t 64 2 | keep ../crates/bench_line_length/data/plan.bin
+plan_t 64 2 1 5 | keep plan-t/plan.bin
+plan_t 64 2 1 5 | keep ../crates/bench/data/plan.bin
+plan_t 64 2 1 5 | keep ../crates/bench_lines/data/plan.bin
+plan_t 64 2 1 5 | keep ../crates/bench_line_length/data/plan.bin
+plan_t 64 2 3 3 | keep ../crates/bench_equals/data/plan.bin
 plan_four | keep ../crates/bench_devices/data/plan.bin
-plan_t 64 0 | keep ../crates/bench_refused/data/plan.bin
-plan_t 65537 2 | keep ../crates/bench_sum/data/plan.bin
+plan_t 64 0 1 5 | keep ../crates/bench_refused/data/plan.bin
+plan_t 65537 2 1 5 | keep ../crates/bench_sum/data/plan.bin
 head -c 4097 /dev/zero | keep ../crates/bench_long/data/plan.bin

@@ -1,15 +1,26 @@
 //! What sessions tried, told from their lines and what they printed: shows, and lets tests assert,
-//! that no kind of line, refusal, answer or result went untried.
+//! that no kind of line, refusal, answer or result went untried, nor the order of acceptance.
 
-use crate::plan;
+mod equals;
+
+pub use equals::Equals;
+
+use crate::plan::{self, Plan};
+use crate::plans::{equals_meet, priority_count};
 use crate::script::Script;
 use crate::session::{BENCH_SUM_LIMIT, LINE_LIMIT, PLAN_LIMIT};
+use equals::Follower;
 use std::collections::BTreeMap;
 use std::fmt;
 
 #[derive(Clone, Copy, Debug, PartialEq, Eq, PartialOrd, Ord)]
 pub enum Kind {
     Plan(PlanAnswer),
+    /// The plan's areas have so many priorities, and equal ones meet on a device.
+    Priorities(Priorities),
+    /// Every area had more than 300 jobs and locks accepted.
+    Busy,
+    Equals(Equals),
     /// A line of this type answered with this number; 0 is accepted.
     Line(u8, u8),
     /// Info of a job with this result.
@@ -29,6 +40,13 @@ pub enum PlanAnswer {
     Refused(u8),
     TooLong,
     SumTooLarge,
+}
+
+#[derive(Clone, Copy, Debug, PartialEq, Eq, PartialOrd, Ord)]
+pub enum Priorities {
+    One,
+    Two,
+    More,
 }
 
 #[derive(Clone, Copy, Debug, PartialEq, Eq, PartialOrd, Ord)]
@@ -86,7 +104,10 @@ pub fn all_kinds() -> Vec<Kind> {
         Kind::Plan(PlanAnswer::SumTooLarge),
         Kind::Ignored(Device::Free),
         Kind::Ignored(Device::Locked),
+        Kind::Busy,
     ];
+    kinds.extend([Priorities::One, Priorities::Two, Priorities::More].map(Kind::Priorities));
+    kinds.extend(Equals::ALL.map(Kind::Equals));
     kinds.extend((1..=8).map(|number| Kind::Plan(PlanAnswer::Refused(number))));
     kinds.extend((0..=3).map(Kind::Result));
     kinds.extend([Count::Own, Count::Above, Count::Below, Count::Locked].map(Kind::Wait));
@@ -157,6 +178,7 @@ impl Coverage {
         if answer != PlanAnswer::Taken {
             return;
         }
+        self.add_order(script, output);
         // What each device showed in the last round.
         let mut shown: Vec<Vec<u8>> = Vec::new();
         for (line, answer) in script.lines.iter().zip(output.split(|byte| *byte == b'\n')) {
@@ -169,6 +191,24 @@ impl Coverage {
                 }
                 _ => self.add_answer(line, answer),
             }
+        }
+    }
+
+    /// What a session on a plan that is taken tried of the order of acceptance.
+    fn add_order(&mut self, script: &Script, output: &[u8]) {
+        let plan = plan::load(&script.plan).expect("the plan is taken");
+        if equals_meet(&plan) {
+            self.add_kind(Kind::Priorities(priorities(&plan)));
+        }
+        let mut follower = Follower::of(&plan);
+        for (line, answer) in script.lines.iter().zip(output.split(|byte| *byte == b'\n')) {
+            if answer != b"?" {
+                let came_up = follower.line(line, answer);
+                came_up.into_iter().for_each(|equals| self.add_kind(Kind::Equals(equals)));
+            }
+        }
+        if follower.fewest_acceptances() > 300 {
+            self.add_kind(Kind::Busy);
         }
     }
 
@@ -234,6 +274,14 @@ impl fmt::Display for Coverage {
             write!(f, "\n{kind:?}: {count}")?;
         }
         Ok(())
+    }
+}
+
+fn priorities(plan: &Plan) -> Priorities {
+    match priority_count(plan) {
+        1 => Priorities::One,
+        2 => Priorities::Two,
+        _ => Priorities::More,
     }
 }
 

@@ -87,7 +87,11 @@ impl Trial {
             tally.add_entry(before.entry(area), self.book.entry(area), &self.results[area]);
             self.note_bounds(area, before.entry(area), tally);
         }
-        self.check_devices()
+        if !fates.is_empty() {
+            tally.add_equals(&self.plan, &before, &self.book);
+        }
+        self.check_devices()?;
+        self.check_order()
     }
 
     /// Any call but a round. It is lent no memory, so demand 1 has only the manager to ask about.
@@ -263,6 +267,12 @@ impl Trial {
         ensure(own <= bound, || format!("demand 3: own {own}, at most {bound}"))?;
         let bound = self.book.below_bound(work);
         ensure(below <= bound, || format!("demand 3: below {below}, at most {bound}"))
+    }
+
+    /// The manager's order of acceptance is the book's.
+    fn check_order(&self) -> Result<(), Failure> {
+        let (order, owed) = (self.manager.order(), self.book.order());
+        ensure(order == owed, || format!("the order is {order:?}, in the book {owed:?}"))
     }
 
     /// The manager's view of every device is the book's.

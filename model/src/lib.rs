@@ -1,6 +1,6 @@
-//! An independent model of the memory access manager of document 01.
+//! An independent model of the memory access manager of document 01 with Req 01 of document 02.
 //!
-//! The model is written from document 01 and the list of readings alone, in the plainest form that
+//! The model is written from these documents and the list of readings alone, in the plainest form that
 //! can be held against their sentences. It shares no code with the proved library; with feature
 //! `proved` the tests run both on the same inputs and compare every field of the answers.
 //!

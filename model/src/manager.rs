@@ -1,5 +1,5 @@
-//! The memory access manager of document 01: jobs, locks, releases, cancels, rounds and queries over
-//! a loaded plan.
+//! The memory access manager of document 01 with Req 01 of document 02: jobs, locks, releases,
+//! cancels, rounds and queries over a loaded plan.
 //!
 //! Every call answers with the number of the first question answered "no", 0 if there is none; a
 //! refused call changes nothing. A manager only comes from an accepted load, so question 9 never
@@ -20,12 +20,17 @@ pub struct Manager {
     plan: Plan,
     areas: Vec<AreaState>,
     devices: Vec<DeviceState>,
+    /// Jobs and locks accepted so far. In 64 bits no list of calls brings it to a limit.
+    acceptances: u64,
 }
 
 #[derive(Clone, Debug, PartialEq, Eq)]
 struct AreaState {
     /// The latest job. "After the end, the job's data stays readable."
     job: Option<Job>,
+    /// How many were accepted before it, of all areas: "The state and the wait book therefore keep
+    /// the order in which pending jobs were accepted."
+    acceptance: u64,
     is_pending: bool,
     /// A cancel waits for the end of the running request.
     is_cancelled: bool,
@@ -107,6 +112,7 @@ impl AreaState {
     fn fresh() -> Self {
         AreaState {
             job: None,
+            acceptance: 0,
             is_pending: false,
             is_cancelled: false,
             result: JobResult::Ok,
@@ -143,7 +149,7 @@ impl Manager {
         let plan = plan::load(bytes)?;
         let areas = vec![AreaState::fresh(); plan.areas.len()];
         let devices = vec![DeviceState::Free; plan.devices.len()];
-        Ok(Manager { plan, areas, devices })
+        Ok(Manager { plan, areas, devices, acceptances: 0 })
     }
 
     pub fn plan(&self) -> &Plan {
@@ -153,6 +159,22 @@ impl Manager {
     /// What a device does: the bench prints it.
     pub fn device(&self, device: usize) -> DeviceState {
         self.devices[device]
+    }
+
+    /// The pending areas, the earliest accepted first.
+    pub fn order(&self) -> Vec<usize> {
+        let mut order: Vec<_> =
+            (0..self.areas.len()).filter(|area| self.areas[*area].is_pending).collect();
+        order.sort_by_key(|area| self.areas[*area].acceptance);
+        order
+    }
+
+    /// As if the areas had been accepted in this order: only for tests that make a manager wrong.
+    pub fn reorder(&mut self, order: &[usize]) {
+        for area in order {
+            self.areas[*area].acceptance = self.acceptances;
+            self.acceptances += 1;
+        }
     }
 
     pub fn job(&mut self, operation: Operation, area: u32, address: u32, length: u32) -> u8 {
@@ -200,10 +222,12 @@ impl Manager {
     }
 
     /// "An accepted job makes its area pending and sets processed length and counts to 0; the old
-    /// result stands until the job ends."
+    /// result stands until the job ends." It comes last in the order.
     fn accept(&mut self, area: usize, job: Job) -> u8 {
         let state = &mut self.areas[area];
         state.job = Some(job);
+        state.acceptance = self.acceptances;
+        self.acceptances += 1;
         state.is_pending = true;
         state.processed = 0;
         state.waits = Waits::default();

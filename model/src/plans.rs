@@ -9,12 +9,13 @@ mod wounds;
 
 pub use enduring::enduring;
 pub use loose::loose;
-pub use small::{full, small};
+pub use small::{crowded, full, small};
 pub use valid::valid;
 pub use wounds::{byte_changes, cuts, field_changes, wounded};
 
 use crate::plan::{Area, Device, Plan, SubArea, AREA_MARK, DEVICE_MARK, SUB_AREA_MARK};
 use crate::random::Random;
+use std::collections::BTreeSet;
 
 /// A number of a record as it stands in the bytes.
 #[derive(Clone, Copy)]
@@ -151,6 +152,29 @@ pub fn plan_t() -> Plan {
         areas: vec![area(1, 0, 0), area(5, 256, 16)],
         sub_areas: vec![sub_area_0, sub_area_1],
     }
+}
+
+/// Plan T with both priorities 3: the order of acceptance ranks its areas.
+pub fn plan_v() -> Plan {
+    let mut plan = plan_t();
+    for area in &mut plan.areas {
+        area.priority = 3;
+    }
+    plan
+}
+
+/// Do areas of equal priority have bytes on one device, so that the order of acceptance matters?
+pub fn equals_meet(plan: &Plan) -> bool {
+    let priority = |s: &SubArea| plan.areas[usize::from(s.area)].priority;
+    let meet = |one: &SubArea, other: &SubArea| {
+        one.area != other.area && one.device == other.device && priority(one) == priority(other)
+    };
+    plan.sub_areas.iter().any(|one| plan.sub_areas.iter().any(|other| meet(one, other)))
+}
+
+/// How many different priorities the areas have.
+pub fn priority_count(plan: &Plan) -> usize {
+    plan.areas.iter().map(|area| area.priority).collect::<BTreeSet<_>>().len()
 }
 
 /// Bytes of each device of a regular plan.

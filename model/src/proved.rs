@@ -111,6 +111,8 @@ pub struct LoadView {
     pub plan: Plan,
     pub areas: [AreaView; 8],
     pub devices: [DeviceView; 4],
+    /// How many other areas had a job accepted since each area's latest one.
+    pub ages: [u8; 8],
 }
 
 extern "C" {

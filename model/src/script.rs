@@ -6,7 +6,10 @@ use crate::plans::{any, encode, largest, plan_t, valid};
 use crate::random::Random;
 use crate::segments::index;
 use crate::session::{BENCH_SUM_LIMIT, PLAN_LIMIT, STORE_LENGTH};
-use crate::sessions::{bench_plan, lines};
+use crate::sessions::{bench_plan, busy_calls, busy_plan, lines, lines_of};
+
+/// Sessions on average from one busy session to the next: they are long.
+const BETWEEN_BUSY_ONES: u32 = 100;
 
 #[derive(Clone, Debug, PartialEq, Eq)]
 pub struct Script {
@@ -71,9 +74,13 @@ impl Lending {
 }
 
 impl Script {
-    /// A session of up to so many lines; few of them on a plan that may be refused.
+    /// A session of up to so many lines; few of them on a plan that may be refused. One in many is
+    /// a busy one instead, of as many lines as it takes.
     pub fn drawn(random: &mut Random, most_lines: usize) -> Script {
-        let plan = match random.below(16) {
+        if random.one_in(BETWEEN_BUSY_ONES) {
+            return Script::busy(random);
+        }
+        let plan = match random.below(12) {
             0 => doubtful_plan(random),
             _ => encode(&bench_plan(random)),
         };
@@ -83,6 +90,18 @@ impl Script {
             lines: drawn_lines(random, &plan, line_count),
             is_last_ended: !random.one_in(4),
             lending: Lending::drawn(random, &plan),
+            plan,
+        }
+    }
+
+    /// A session in which every area has hundreds of jobs accepted.
+    fn busy(random: &mut Random) -> Script {
+        let records = busy_plan(random);
+        let plan = encode(&records);
+        Script {
+            lines: lines_of(&busy_calls(random, &records), &records),
+            is_last_ended: true,
+            lending: Lending::bench(&plan),
             plan,
         }
     }

@@ -17,6 +17,7 @@ pub const STORE_LENGTH: usize = 65_536;
 const UNREADABLE: &str = "?";
 
 /// A bench with its plan loaded. Image and store are open, as they are lent to each round.
+#[derive(Clone)]
 pub struct Session {
     pub manager: Manager,
     pub image: Vec<u8>,

@@ -5,21 +5,23 @@
 //! run. What makes jobs run to their end, fail, be tried again and wait for each other is the choice
 //! of plans, of ranges that mostly fit the plan, and of moods in which the devices answer.
 
+mod busy;
 mod calls;
 mod lines;
 
+pub use busy::{busy_calls, busy_plan};
 pub use calls::{steps, Memory, Step};
-pub use lines::{lines, text, Line};
+pub use lines::{lines, lines_of, text, Line};
 
 use crate::plan::Plan;
-use crate::plans::{full, largest, plan_t, small, valid};
+use crate::plans::{full, largest, plan_t, plan_v, small, valid};
 use crate::random::Random;
 use crate::session::BENCH_SUM_LIMIT;
 
 /// A plan that the bench takes.
 pub fn bench_plan(random: &mut Random) -> Plan {
     match random.below(16) {
-        0 => plan_t(),
+        0 => random.pick(&[plan_t, plan_v])(),
         1 => largest(),
         2 => medium(random),
         3 => full(random),

@@ -134,14 +134,20 @@ fn move_area(script: &mut Script, plan: &mut Plan, area: usize) {
     });
 }
 
-/// Changes the numbers of every line of numbers but the rounds.
+/// Changes the numbers of every line of numbers but the rounds. The others stay as they are written.
 fn change_calls(script: &mut Script, change: impl Fn(&mut [u32])) {
     for line in &mut script.lines {
-        let numbers = line.split(|byte| *byte == b' ').map(number).collect::<Option<Vec<_>>>();
-        if let Some(mut numbers) = numbers.filter(|numbers| numbers.len() > 1 && numbers[0] > 0) {
-            change(&mut numbers);
-            let fields: Vec<_> = numbers.iter().map(u32::to_string).collect();
-            *line = fields.join(" ").into_bytes();
+        let mut fields = fields_of(line);
+        let numbers: Option<Vec<_>> = fields.iter().map(|field| number(field)).collect();
+        if let Some(numbers) = numbers.filter(|numbers| numbers.len() > 1 && numbers[0] > 0) {
+            let mut changed = numbers.clone();
+            change(&mut changed);
+            for (field, (old, new)) in fields.iter_mut().zip(numbers.iter().zip(changed)) {
+                if *old != new {
+                    *field = new.to_string().into_bytes();
+                }
+            }
+            *line = fields.join(&b' ');
         }
     }
 }

@@ -1,12 +1,13 @@
 //! "The wait book": document 01's definition of what the four counts of demand 3 must be, over the
-//! plan and the arguments of the calls, with the image and store that a round is lent.
+//! plan and the arguments of the calls, with the image and store that a round is lent. It keeps the
+//! order of Req 01 of document 02 as well.
 //!
 //! The book reads no field of the manager and no answer of it. With the manager it shares the terms
 //! of [`crate::jobs`], the cutting of jobs into pieces and the questions at the door, which it asks
 //! of its own state. Everything else is written a second time and in another style: every call is a
 //! function from an old book to the next, a round first says what becomes of every device and then
-//! makes every entry anew, and jobs go through a list of their pieces instead of measuring the rest
-//! of their range.
+//! makes every entry anew, jobs go through a list of their pieces instead of measuring the rest of
+//! their range, and the order of acceptance is a list of areas instead of a count.
 
 mod bounds;
 mod round;
@@ -24,6 +25,9 @@ pub struct WaitBook {
     plan: Rc<Plan>,
     stations: Vec<Station>,
     entries: Vec<Entry>,
+    /// The pending areas, the earliest accepted first: "The state and the wait book therefore keep
+    /// the order in which pending jobs were accepted."
+    order: Vec<usize>,
 }
 
 /// "for each device what runs there with its polls, or the area it is locked for"
@@ -95,6 +99,10 @@ impl Entry {
         Entry { work: Some(work), retries_left: first_retries, is_pending: true, ..Entry::blank() }
     }
 
+    pub fn is_lock(&self) -> bool {
+        matches!(self.work, Some(Work { task: Task::LockOf(_), .. }))
+    }
+
     /// The first piece not yet done.
     fn next_piece(&self) -> Option<Piece> {
         self.work.as_ref()?.task.piece(self.next)
@@ -102,7 +110,7 @@ impl Entry {
 
     /// "The device a job needs is that of its first piece not yet done, or of its lock request's
     /// range." None if the job is not pending.
-    fn needs(&self) -> Option<usize> {
+    pub fn needs(&self) -> Option<usize> {
         let work = self.work.as_ref().filter(|_| self.is_pending)?;
         match work.task {
             Task::Pieces(..) => self.next_piece().map(|piece| piece.device),
@@ -139,6 +147,7 @@ impl WaitBook {
             plan: Rc::new(plan.clone()),
             stations: plan.devices.iter().map(|_| Station::Nothing).collect(),
             entries: plan.areas.iter().map(|_| Entry::blank()).collect(),
+            order: Vec::new(),
         }
     }
 
@@ -150,6 +159,10 @@ impl WaitBook {
         self.stations[device]
     }
 
+    pub fn order(&self) -> &[usize] {
+        &self.order
+    }
+
     /// The book after a job, and the number that the questions give it.
     pub fn job(self, operation: Operation, target: Target) -> (WaitBook, u8) {
         match admission::job(&self.plan, &self, operation, target) {
@@ -159,7 +172,7 @@ impl WaitBook {
                 let pieces = segments::pieces(&self.plan, operation, area, range).collect();
                 let job = Job { job_type: JobType::Operation(operation), target };
                 let work = Work { job, task: Task::Pieces(operation, pieces) };
-                (self.with_entry(area, Entry::of_new(work)), 0)
+                (self.with_new(area, work), 0)
             }
         }
     }
@@ -171,7 +184,7 @@ impl WaitBook {
             Ok(lock) => {
                 let job = Job { job_type: JobType::LockRequest, target };
                 let work = Work { job, task: Task::LockOf(lock.device) };
-                (self.with_entry(lock.area, Entry::of_new(work)), 0)
+                (self.with_new(lock.area, work), 0)
             }
         }
     }
@@ -192,13 +205,25 @@ impl WaitBook {
             Ok(area) => {
                 let is_pending = self.runs_for(area);
                 let entry = Entry { is_pending, is_cancelled: true, ..self.entries[area].clone() };
-                (self.with_entry(area, entry), 0)
+                (self.with_entry(area, entry).without_ended(), 0)
             }
         }
     }
 
     fn runs_for(&self, wanted: usize) -> bool {
         self.stations.iter().any(|s| matches!(s, Station::Runs { area, .. } if *area == wanted))
+    }
+
+    /// An accepted job or lock comes last in the order. Its area is idle, so it is not there yet.
+    fn with_new(mut self, area: usize, work: Work) -> WaitBook {
+        self.order.push(area);
+        self.with_entry(area, Entry::of_new(work))
+    }
+
+    /// Areas whose job has ended leave the order; the others stay as they stand.
+    fn without_ended(mut self) -> WaitBook {
+        self.order.retain(|area| self.entries[*area].is_pending);
+        self
     }
 
     fn with_entry(mut self, area: usize, entry: Entry) -> WaitBook {

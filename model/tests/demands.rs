@@ -4,9 +4,9 @@ use model::calls::Call;
 use model::demands::{Tally, Trial};
 use model::jobs::{Answer, Operation, Target};
 use model::plan::{Area, Device, Plan, SubArea};
-use model::plans::{largest, plan_t, small, valid};
+use model::plans::{equals_meet, largest, plan_t, plan_v, priority_count, small, valid};
 use model::random::Random;
-use model::sessions::{steps, Step};
+use model::sessions::{busy_calls, busy_plan, steps, Step};
 use std::time::Instant;
 
 const STEPS_PER_PLAN: usize = 400;
@@ -44,9 +44,14 @@ fn run(trial: &mut Trial, steps: &[Step], tally: &mut Tally, name: &str) {
 fn runs(seed: u64, plans: u32, plan: fn(&mut Random) -> Plan) -> Tally {
     let mut random = Random::new(seed);
     let mut tally = Tally::default();
+    // Plans on which the order of acceptance matters, of one priority, of two and of more.
+    let mut meetings = [0; 3];
     let start = Instant::now();
     for number in 0..plans {
         let plan = plan(&mut random);
+        if equals_meet(&plan) {
+            meetings[priority_count(&plan).min(3) - 1] += 1;
+        }
         let steps = steps(&mut random, &plan, STEPS_PER_PLAN);
         let name = format!("seed {seed}, plan {number}");
         run(&mut trial(&mut random, &plan), &steps, &mut tally, &name);
@@ -55,8 +60,11 @@ fn runs(seed: u64, plans: u32, plan: fn(&mut Random) -> Plan) -> Tally {
     let per_second = |count: u64| count as f64 / seconds;
     let (calls, rounds) = (per_second(tally.calls), per_second(tally.rounds));
     println!(
-        "seed {seed}, {plans} plans, per second {calls:.0} calls, {rounds:.0} rounds\n{tally}\n"
+        "seed {seed}, {plans} plans, per second {calls:.0} calls, {rounds:.0} rounds\n{tally}\n\
+         areas of equal priority meet: {meetings:?}\n"
     );
+    assert!(2 * meetings.iter().sum::<u32>() >= plans, "{meetings:?} of {plans}");
+    assert!(meetings.iter().all(|count| *count >= 100), "{meetings:?}");
     tally
 }
 
@@ -79,6 +87,10 @@ fn assert_tried(tally: &Tally, often: u64) {
     }
     let bounds = [tally.own_bounds_reached, tally.below_bounds_reached];
     assert!(bounds.iter().all(|reached| *reached >= often), "{bounds:?}");
+    // Below is rare between equals: the busy lists try it.
+    for (name, count) in tally.equals.counts().into_iter().filter(|(name, _)| *name != "below") {
+        assert!(count >= often, "between equals, {name}: only {count}");
+    }
 }
 
 #[test]
@@ -86,17 +98,41 @@ fn small_plans() {
     assert_tried(&runs(51, 9_000, small), 1_000);
 }
 
-/// Longer jobs on plan T, on the plan with most records, and on random plans with little patience.
+/// Longer jobs on plans T and V, on the plan with most records, and on random plans with little
+/// patience.
 #[test]
 fn other_plans() {
     let plan = |random: &mut Random| match random.below(8) {
-        0..=2 => plan_t(),
+        0 => plan_t(),
+        1..=2 => plan_v(),
         3 => largest(),
         _ => impatient(random),
     };
     let tally = runs(52, 4_000, plan);
     assert!((0..=3).all(|result| tally.results(result) >= 1_000));
     assert!(tally.waits.iter().all(|count| *count >= 1_000));
+}
+
+/// "the bounds hold with it": lists in which every area has more than 300 jobs and locks accepted,
+/// and in which areas of equal priority stand above and below each other.
+#[test]
+fn busy_lists() {
+    let mut random = Random::new(53);
+    let mut sums = [0; 6];
+    for number in 0..24 {
+        let plan = busy_plan(&mut random);
+        let calls = busy_calls(&mut random, &plan);
+        let steps: Vec<_> = calls.into_iter().map(Step::Call).collect();
+        let mut tally = Tally::default();
+        run(&mut trial(&mut random, &plan), &steps, &mut tally, &format!("busy list {number}"));
+        let acceptances = &tally.acceptances[..plan.areas.len()];
+        println!("{} priorities, acceptances {acceptances:?}\n{tally}\n", priority_count(&plan));
+        assert!(acceptances.iter().all(|count| *count > 300), "{acceptances:?}");
+        let counts = tally.equals.counts().map(|(_, count)| count);
+        sums.iter_mut().zip(counts).for_each(|(sum, count)| *sum += count);
+    }
+    println!("between equals: {sums:?}");
+    assert!(sums.iter().all(|sum| *sum >= 100), "{sums:?}");
 }
 
 /// A random valid plan with an image that is not too large to be looked at after every call.

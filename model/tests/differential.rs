@@ -3,7 +3,7 @@
 
 mod mutants;
 
-use model::coverage::Coverage;
+use model::coverage::{Coverage, Equals, Kind, PlanAnswer, Priorities};
 use model::fuzz::{fuzz, Ending};
 use model::random::Random;
 use model::script::Script;
@@ -33,14 +33,36 @@ fn the_sessions_try_everything() {
     }
     println!("{coverage}");
     assert_eq!(coverage.rarer_than(3), []);
+    assert_order_is_tried(&coverage);
+}
+
+/// On half of the plans or more the order of acceptance matters, and it decides often.
+fn assert_order_is_tried(coverage: &Coverage) {
+    let priorities = [Priorities::One, Priorities::Two, Priorities::More];
+    let meetings = priorities.map(|priorities| coverage.count(Kind::Priorities(priorities)));
+    let plans = coverage.count(Kind::Plan(PlanAnswer::Taken));
+    assert!(2 * meetings.iter().sum::<u64>() >= plans, "{meetings:?} of {plans}");
+    assert!(meetings.iter().all(|count| *count >= 100), "{meetings:?}");
+    assert!(coverage.count(Kind::Busy) >= 10, "sessions with more than 300 jobs of every area");
+    for equals in Equals::ALL {
+        let count = coverage.count(Kind::Equals(equals));
+        assert!(count >= 100, "{equals:?}: only {count}");
+    }
 }
 
 #[test]
 fn every_mutant_is_found() {
-    for (number, mut mutant) in (0..).zip(mutants::all()) {
+    for (number, mut mutant) in (0..).zip(mutants::all().into_iter().chain(mutants::lasting())) {
         let found = first_difference(&mut mutant, 62 + number, SESSIONS);
         assert!(found.is_some(), "{} was not found", mutant.name);
     }
+}
+
+/// What is found of the mutants of the order is not owed to the way they are made.
+#[test]
+fn the_right_order_is_not_found() {
+    let found = first_difference(&mut mutants::right_order(), 62, SESSIONS / 4);
+    assert_eq!(found, None);
 }
 
 /// What is found is made so small that a person sees what is wrong.
@@ -51,8 +73,8 @@ fn what_is_found_is_made_small() {
         let small = smallest(script, &mut |script| compare(&mut mutant, script).is_err());
         let difference = compare(&mut mutant, &small).expect_err("still different");
         println!("{}\n{}", mutant.name, report(&small, &difference));
-        assert!(small.lines.len() <= 8, "{}: {small:?}", mutant.name);
-        assert!(small.plan.len() <= 200, "{}: {small:?}", mutant.name);
+        assert!(small.lines.len() <= 10, "{}: {small:?}", mutant.name);
+        assert!(small.plan.len() <= 240, "{}: {small:?}", mutant.name);
     }
 }
 

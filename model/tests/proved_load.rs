@@ -56,10 +56,15 @@ fn plan_view(plan: &Plan) -> proved::Plan {
 }
 
 /// What the interface owes for these bytes. "A refused load returns the manager of all zeros";
-/// an accepted one the plan with fresh areas and free devices, which are zeros as well.
+/// an accepted one the plan with fresh areas and free devices, which are zeros as well, and with
+/// ages that all differ: by number, as no job was accepted yet.
 fn owed(bytes: &[u8]) -> LoadView {
     match plan::load(bytes) {
-        Ok(plan) => LoadView { plan: plan_view(&plan), ..LoadView::default() },
+        Ok(plan) => LoadView {
+            plan: plan_view(&plan),
+            ages: [0, 1, 2, 3, 4, 5, 6, 7],
+            ..LoadView::default()
+        },
         Err(number) => LoadView { number, ..LoadView::default() },
     }
 }

@@ -12,7 +12,7 @@ use std::time::{Duration, Instant};
 
 const SEEDS: [u64; 4] = [81, 82, 83, 84];
 /// Of all seeds together.
-const MOST_LINES: u64 = 1_000_000;
+const MOST_LINES: u64 = 2_000_000;
 const MOST_TIME: Duration = Duration::from_secs(60);
 /// Short sessions try many plans, long ones come to states that take many calls.
 const LINES_OF_A_SESSION: [usize; 3] = [30, 300, 3_000];

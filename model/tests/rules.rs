@@ -1,10 +1,10 @@
-//! Named cases of the rules that are easy to get wrong, worked out by hand from document 01. Most
-//! are written as sessions of the bench, with a look at image and store.
+//! Named cases of the rules that are easy to get wrong, worked out by hand from document 01 and Req
+//! 01 of document 02. Most are written as sessions of the bench, with a look at image and store.
 
 use model::jobs::{Answer, Operation, Target};
 use model::manager::{DeviceState, JobInfo, Manager, MemoryInfo, RequestInfo, Wait, Waits};
 use model::plan::{Area, Device, Plan, SubArea};
-use model::plans::{encode, enduring, plan_t};
+use model::plans::{encode, enduring, plan_t, plan_v};
 use model::session::Session;
 use model::wait_book::{Numbers, WaitBook};
 
@@ -418,19 +418,240 @@ fn retry_loses_the_device_to_a_higher_area() {
     ]);
 }
 
+/// One device of 48 bytes, patience 3, on which three areas of these priorities have 16 bytes each.
+fn three_areas(priorities: [u16; 3]) -> Plan {
+    Plan {
+        devices: vec![Device { start: 0, length: 48, patience: 3 }],
+        areas: areas(&priorities),
+        sub_areas: vec![fours(0, 0, 0, 4), fours(1, 0, 16, 4), fours(2, 0, 32, 4)],
+    }
+}
+
+/// `two_devices` with all priorities equal and a retry for the writes of area 2.
+fn two_devices_of_equals() -> Plan {
+    let mut plan = two_devices();
+    plan.areas = areas(&[7, 7, 7]);
+    plan.sub_areas[3].write_retries = 1;
+    plan
+}
+
+/// "Areas of equal priority shall be ranked by acceptance: the earlier accepted job is above."
 #[test]
-fn equal_priorities_rank_by_area_number() {
-    let mut plan = plan_t();
-    plan.areas[1].priority = 1;
-    let mut bench = Bench::on(&plan);
+fn earlier_accepted_is_above_whatever_its_number() {
+    let mut bench = Bench::on(&plan_v());
     bench.run(&[
         ("1 1 256 8", "0"),
-        ("0 p", "R 1:1:32:4"),
         ("1 0 0 4", "0"),
         ("0 p", "R 1:1:32:4"),
-        ("10 0", "0 0 0 0 1 0"),
+        // Also for its next piece.
+        ("0 d", "R 1:1:36:4"),
+        ("10 0", "0 0 0 2 0 0"),
         ("0 d", "R 0:1:0:4"),
-        ("10 1", "0 4 2 1 0 0"),
+        ("10 1", "0 8 2 0 0 0"),
+    ]);
+    let mut bench = Bench::on(&plan_v());
+    bench.run(&[
+        ("1 0 0 4", "0"),
+        ("1 1 256 4", "0"),
+        ("0 p", "R 0:1:0:4"),
+        ("10 1", "0 0 0 1 0 0"),
+        ("0 d", "R 1:1:32:4"),
+        ("10 0", "0 4 1 0 0 0"),
+    ]);
+}
+
+/// In every order of acceptance: the first runs at once, the second waits one round above, the
+/// third two.
+#[test]
+fn three_areas_of_equal_priority() {
+    for order in [[0, 1, 2], [0, 2, 1], [1, 0, 2], [1, 2, 0], [2, 0, 1], [2, 1, 0]] {
+        let mut bench = Bench::on(&three_areas([7, 7, 7]));
+        for area in order {
+            bench.run(&[(&format!("1 {area} 0 4"), "0")]);
+        }
+        for area in order {
+            bench.run(&[("0 d", &format!("R {area}:1:{}:4", 16 * area))]);
+        }
+        bench.run(&[("0 d", "R -")]);
+        for (place, area) in order.into_iter().enumerate() {
+            bench.run(&[(&format!("10 {area}"), &format!("0 4 1 {place} 0 0"))]);
+        }
+    }
+}
+
+/// "the larger priority is above": also if accepted last; a lower one that runs since before counts
+/// below.
+#[test]
+fn another_priority_decides_before_the_order() {
+    let mut bench = Bench::on(&three_areas([1, 2, 1]));
+    bench.run(&[
+        ("1 2 0 4", "0"),
+        ("1 0 0 4", "0"),
+        ("1 1 0 4", "0"),
+        ("0 d", "R 1:1:16:4"),
+        ("0 d", "R 2:1:32:4"),
+        ("0 d", "R 0:1:0:4"),
+        ("10 0", "0 0 1 2 0 0"),
+        ("10 1", "0 4 1 0 0 0"),
+        ("10 2", "0 4 1 1 0 0"),
+        ("1 1 0 4", "0"),
+        ("0 p", "R 0:1:0:4"),
+        ("10 1", "0 0 0 0 1 0"),
+    ]);
+}
+
+/// By a failure and by a drop, of either area.
+#[test]
+fn retry_keeps_its_place() {
+    let mut plan = plan_v();
+    plan.sub_areas[1].write_retries = 1;
+    let (zero, one) = (("1 0 0 4", "R 0:1:0:4"), ("1 1 256 4", "R 1:1:32:4"));
+    for (first, second, infos) in [(zero, one, ["10 0", "10 1"]), (one, zero, ["10 1", "10 0"])] {
+        // The second poll reaches the patience.
+        for (answer, own) in [("0 0", 2), ("0 p", 3)] {
+            let mut bench = Bench::on(&plan);
+            bench.run(&[(first.0, "0"), ("0 p", first.1), (second.0, "0")]);
+            bench.run(&vec![(answer, first.1); own - 1]);
+            bench.run(&[("0 d", second.1), ("0 d", "R -")]);
+            bench.run(&[(infos[0], &format!("0 4 {own} 0 0 0"))]);
+            bench.run(&[(infos[1], &format!("0 4 1 {} 0 0", own - 1))]);
+        }
+    }
+}
+
+/// Area 0, accepted first, comes to device 1 while area 2 runs there: below. Its place is before
+/// that of the failed request.
+#[test]
+fn retry_does_not_go_before_an_earlier_job() {
+    let mut bench = Bench::on(&two_devices_of_equals());
+    bench.run(&[
+        ("1 0 0 16", "0"),
+        ("1 2 0 8", "0"),
+        ("0 p p", "R 0:1:0:8 2:1:48:8"),
+        ("0 d p", "R - 2:1:48:8"),
+        ("10 0", "0 8 1 0 1 0"),
+        ("0 p 0", "R - 0:1:32:8"),
+        ("10 0", "0 8 2 0 1 0"),
+        ("10 2", "0 0 2 1 0 0"),
+        ("0 p d", "R - 2:1:48:8"),
+        ("10 0", "0 16 2 0 1 0"),
+    ]);
+}
+
+/// "A cancelled running job counts own and keeps its rank": above for who came later, below for who
+/// came earlier, until it ends.
+#[test]
+fn cancelled_job_keeps_its_place_while_its_request_runs() {
+    let mut bench = Bench::on(&plan_v());
+    bench.run(&[
+        ("1 1 256 4", "0"),
+        ("0 p", "R 1:1:32:4"),
+        ("1 0 0 4", "0"),
+        ("9 1", "0"),
+        ("0 p", "R 1:1:32:4"),
+        ("10 0", "0 0 0 1 0 0"),
+        ("0 d", "R 0:1:0:4"),
+        ("10 1", "3 4 2 0 0 0"),
+    ]);
+    let mut bench = Bench::on(&two_devices_of_equals());
+    bench.run(&[
+        ("1 0 0 16", "0"),
+        ("1 2 0 8", "0"),
+        ("0 p p", "R 0:1:0:8 2:1:48:8"),
+        ("9 2", "0"),
+        ("0 d p", "R - 2:1:48:8"),
+        ("0 d p", "R - 2:1:48:8"),
+        ("10 0", "0 8 1 0 2 0"),
+        ("0 p d", "R - 0:1:32:8"),
+        // Its next job comes last.
+        ("1 2 0 8", "0"),
+        ("0 p p", "R - 0:1:32:8"),
+        ("10 2", "3 0 0 1 0 0"),
+    ]);
+}
+
+#[test]
+fn lock_request_has_its_place() {
+    let mut bench = Bench::on(&three_areas([7, 7, 7]));
+    bench.run(&[
+        ("1 1 0 4", "0"),
+        ("7 2 0 1", "0"),
+        ("1 0 0 4", "0"),
+        ("0 d", "R 1:1:16:4"),
+        ("0 d", "R L"),
+        ("10 0", "0 0 0 1 0 1"),
+        ("10 2", "0 0 0 1 0 0"),
+        ("8 2 0 1", "0"),
+        ("0 d", "R 0:1:0:4"),
+        // The lower number's lock request waits for the earlier job of the higher.
+        ("1 2 0 4", "0"),
+        ("7 1 0 1", "0"),
+        ("0 d", "R 2:1:32:4"),
+        ("0 d", "R L"),
+        ("10 1", "0 0 0 1 0 0"),
+    ]);
+}
+
+/// After an end by a round, and after a cancel.
+#[test]
+fn next_job_of_an_area_comes_last() {
+    let mut bench = Bench::on(&three_areas([7, 7, 7]));
+    bench.run(&[
+        ("1 0 0 4", "0"),
+        ("1 1 0 4", "0"),
+        ("1 2 0 4", "0"),
+        ("0 d", "R 0:1:0:4"),
+        ("0 d", "R 1:1:16:4"),
+        ("1 0 0 4", "0"),
+        ("0 d", "R 2:1:32:4"),
+        ("10 0", "0 0 0 1 0 0"),
+        ("0 d", "R 0:1:0:4"),
+        ("0 d", "R -"),
+        ("1 0 0 4", "0"),
+        ("1 1 0 4", "0"),
+        ("9 0", "0"),
+        ("1 0 0 4", "0"),
+        ("0 d", "R 1:1:16:4"),
+        ("0 d", "R 0:1:0:4"),
+    ]);
+}
+
+/// "a refused call leaves image, store and manager as they were": it neither takes a place nor
+/// loses one.
+#[test]
+fn refused_call_changes_no_order() {
+    let mut bench = Bench::on(&plan_v());
+    bench.run(&[
+        ("1 0 0 0", "12"),
+        ("7 0 0 0", "12"),
+        ("1 1 256 4", "0"),
+        ("1 0 0 4", "0"),
+        ("1 1 256 4", "11"),
+        ("7 1 256 1", "11"),
+        ("8 1 256 1", "16"),
+        ("0 p", "R 1:1:32:4"),
+        ("10 0", "0 0 0 1 0 0"),
+    ]);
+}
+
+/// Whether a round ends it or a cancel.
+#[test]
+fn order_of_the_others_stays_when_a_job_ends() {
+    let mut bench = Bench::on(&three_areas([7, 7, 7]));
+    bench.run(&[
+        ("1 0 0 4", "0"),
+        ("1 2 0 4", "0"),
+        ("1 1 0 4", "0"),
+        ("0 d", "R 0:1:0:4"),
+        ("0 d", "R 2:1:32:4"),
+        ("0 d", "R 1:1:16:4"),
+        ("0 d", "R -"),
+        ("1 1 0 4", "0"),
+        ("1 2 0 4", "0"),
+        ("1 0 0 4", "0"),
+        ("9 1", "0"),
+        ("0 d", "R 2:1:32:4"),
+        ("0 d", "R 0:1:0:4"),
     ]);
 }
 
@@ -934,6 +1155,37 @@ fn wait_book_of_the_printed_session() {
     for area in [0, 1] {
         assert!(book.entry(area).round_ended_it && !book.entry(area).is_pending);
     }
+}
+
+/// The wait book alone on plan V: the second area is accepted first.
+#[test]
+fn wait_book_keeps_the_order() {
+    let (image, store) = ([255; 64], [0; 32]);
+    let done = |book: WaitBook| {
+        let (book, number) = book.round([Answer::Done; 4], &image, &store);
+        assert_eq!(number, 0);
+        book
+    };
+    let write = |book: WaitBook, area: u32, address: u32| {
+        book.job(Operation::Write, Target { area, address, length: 4 })
+    };
+    let (book, _) = write(WaitBook::of(&plan_v()), 1, 256);
+    let (book, _) = write(book, 0, 4);
+    let (book, refused) = write(book, 1, 256);
+    assert_eq!((refused, book.order()), (11, &[1, 0][..]));
+    let book = done(book);
+    assert_eq!(book.order(), [1, 0]);
+    let book = done(book);
+    assert_eq!(book.order(), [0]);
+    let (book, _) = write(book, 1, 256);
+    assert_eq!(book.order(), [0, 1]);
+    let (book, _) = book.cancel(0);
+    assert_eq!(book.order(), [0, 1]);
+    let book = done(book);
+    assert_eq!(book.order(), [1]);
+    let numbers = |area: usize| book.entry(area).numbers;
+    assert_eq!(numbers(0), Numbers { rounds: 3, own: 1, above: 1, below: 0, locked: 0 });
+    assert_eq!(numbers(1), Numbers { rounds: 1, own: 1, above: 0, below: 0, locked: 0 });
 }
 
 /// What the benchmarks rest on: in long runs of rounds no job ends, and every device is busy.

@@ -1,11 +1,11 @@
-//! The bench program: document 01's printed session to the byte, its cases "on fresh T", every "?"
-//! with both sides of each limit, and random sessions.
+//! The bench program: document 01's printed session to the byte, its cases "on fresh T", sessions of
+//! Req 01, every "?" with both sides of each limit, and random sessions.
 
 use model::calls::{Call, Query};
 use model::jobs::Operation;
 use model::manager::{DeviceState, Manager};
 use model::plan::Plan;
-use model::plans::{encode, largest, plan_t, regular};
+use model::plans::{encode, largest, plan_t, plan_v, regular};
 use model::random::Random;
 use model::segments::{pieces, Piece};
 use model::session::{run_session, Session};
@@ -60,6 +60,81 @@ fn printed_session_to_the_byte() {
     let printed = b"0\nR 0:1:4:4\n0\nR 0:1:4:4\nR 1:1:32:4\nR 0:1:8:8\nR 0:1:8:8\nR -\n\
         0 12 4 1 0 0\n0 4 1 0 1 0\n";
     assert_eq!(run_session(Some(&encode(&plan_t())), input), printed);
+}
+
+/// On plan V, by hand: the second area is accepted first.
+#[test]
+fn equal_priorities_go_by_acceptance() {
+    check(
+        &plan_v(),
+        &[
+            ("1 1 256 4", "0"),
+            ("1 0 4 4", "0"),
+            ("0 p", "R 1:1:32:4"),
+            ("0 d", "R 0:1:4:4"),
+            ("0 d", "R -"),
+            ("10 0", "0 4 1 1 0 0"),
+            ("10 1", "0 4 1 0 0 0"),
+        ],
+    );
+}
+
+/// On plan V, by hand: a retry keeps its place.
+#[test]
+fn retry_among_equal_priorities() {
+    check(
+        &plan_v(),
+        &[
+            ("1 0 4 4", "0"),
+            ("0 p", "R 0:1:4:4"),
+            ("1 1 256 4", "0"),
+            ("0 0", "R 0:1:4:4"),
+            ("0 d", "R 1:1:32:4"),
+            ("0 d", "R -"),
+            ("10 0", "0 4 2 0 0 0"),
+            ("10 1", "0 4 1 1 0 0"),
+        ],
+    );
+}
+
+/// On plan V, by hand: an area's next job comes last.
+#[test]
+fn next_job_among_equal_priorities() {
+    check(
+        &plan_v(),
+        &[
+            ("1 0 4 12", "0"),
+            ("1 1 256 8", "0"),
+            ("0 p", "R 0:1:4:4"),
+            ("0 d", "R 0:1:8:8"),
+            ("0 d", "R 1:1:32:4"),
+            ("1 0 0 4", "0"),
+            ("0 d", "R 1:1:36:4"),
+            ("0 d", "R 0:1:0:4"),
+            ("0 d", "R -"),
+            ("10 0", "0 4 1 1 0 0"),
+            ("10 1", "0 8 2 2 0 0"),
+        ],
+    );
+}
+
+/// On plan V, by hand: a lock request has its place.
+#[test]
+fn lock_among_equal_priorities() {
+    check(
+        &plan_v(),
+        &[
+            ("7 1 256 4", "0"),
+            ("1 0 4 4", "0"),
+            ("0 p", "R L"),
+            ("10 0", "0 0 0 0 0 1"),
+            ("8 1 256 4", "0"),
+            ("0 p", "R 0:1:4:4"),
+            ("0 d", "R -"),
+            ("10 0", "0 4 1 0 0 1"),
+            ("10 1", "0 0 0 0 0 0"),
+        ],
+    );
 }
 
 /// "On fresh T": the pieces as the bench shows them, each answered done.

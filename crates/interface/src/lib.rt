@@ -47,6 +47,7 @@ pub struct LoadView {
     pub plan: Plan,
     pub areas: [AreaView; 8],
     pub devices: [DeviceView; 4],
+    pub ages: [u8; 8],
 }
 
 impl JobView {
@@ -155,11 +156,13 @@ pub extern "C" fn luvdrog_load(bytes: &[u8]) -> LoadView
     let plan = manager.plan;
     let areas = manager.areas;
     let devices = manager.devices;
+    let ages = manager.ages;
     LoadView {
         number: answer.number(),
         plan,
         areas: area_views(areas),
         devices: device_views(devices),
+        ages,
     }
 }
 

@@ -1,4 +1,6 @@
 // A job from its acceptance to its end.
+pub mod ranks;
+
 ghost use mathlib.Core.Path.{_≡_};
 ghost use Prim.Native.Nat.{_-_};
 ghost use lib.Dec.{leb};

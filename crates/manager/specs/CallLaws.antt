@@ -33,7 +33,7 @@ use Rattle.state.specs.Fresh.{noWaits}
 use Rattle.state.specs.declared.DeviceState.the-variants.{Free}
 use Rattle.state.specs.declared.Job.{Job}
 use Rattle.state.specs.declared.Waits.{Waits}
-use Rattle.manager.specs.Calls.{coreOf, numberOf, withArea, withDevice, jobNumberOf, afterJob, releaseNumberOf, afterRelease, cancelNumberOf, afterCancel, infoNumberOf, statusOf, resultOf, processedOf, noJobInfo, infoOf, memoryInfoNumberOf, memoryOfArea, roundNumberOf, afterRound, memoryAfterRound}
+use Rattle.manager.specs.Calls.{coreOf, rankedOf, numberOf, withArea, withAccepted, withDevice, jobNumberOf, afterJob, releaseNumberOf, afterRelease, cancelNumberOf, afterCancel, infoNumberOf, statusOf, resultOf, processedOf, noJobInfo, infoOf, memoryInfoNumberOf, memoryOfArea, roundNumberOf, afterRound, memoryAfterRound}
 use Rattle.manager.specs.declared.Manager.{Manager}
 
 -- a call that is refused, with that number
@@ -107,11 +107,11 @@ module _ (m : Manager) (a : ℕ) where
   job-refused t e = rw e
 
   pub job-accepted : (t : Task) (j : Job) (w : Waits) (r : ℕ) → j ≡ begunWith r t (jobIn (m .areas) a) → r ≡ segmentAt (m .plan) a t 0 .retries → w ≡ noWaits →
-      jobNumberOf m a t ≡ 0 → withArea a j w m ≡ afterJob m a t
+      jobNumberOf m a t ≡ 0 → withAccepted a j w m ≡ afterJob m a t
   unfolding afterJob begin
   job-accepted t j w r is first none e =
       rw (eq-eqb (jobNumberOf m a t) 0 e)
-      (ap (λ j'. withArea a j' w m) (is ∙ begun-first (m .plan) a t (jobIn (m .areas) a) r first ∙ sym (upd-same (jobIn (m .areas)) a _)) ∙ ap (λ w'. withArea a (begin (layoutOf (m .plan)) a t (coreOf m) .jobs a) w' m) none)
+      (ap (λ j'. withAccepted a j' w m) (is ∙ begun-first (m .plan) a t (jobIn (m .areas) a) r first ∙ sym (upd-same (jobIn (m .areas)) a _)) ∙ ap (λ w'. withAccepted a (begin (layoutOf (m .plan)) a t (coreOf m) .jobs a) w' m) none)
 
   module _ (address : LogicalAddress) (n : ℕ) where
     -- the device of an accepted release is one that the manager has
@@ -195,12 +195,12 @@ module _ (m : Manager) (answers : List DeviceAnswer) (lent : Memory) where
 
   module _ (e : roundNumberOf m lent ≡ 0) where
     pub round-accepted : (areas : List Area) (devices : List Device) →
-        areas ≡ areasAfter (layoutOf (m .plan)) (m .areas) (halvesOf (m .plan) (m .areas) (m .devices) answers lent .core) →
-        devices ≡ devicesAfter (halvesOf (m .plan) (m .areas) (m .devices) answers lent .core) →
-        record { plan = m .plan; areas = areas; devices = devices } ≡ afterRound m answers lent
+        areas ≡ areasAfter (rankedOf m) (m .areas) (halvesOf (m .plan) (m .areas) (m .devices) (m .ages) answers lent .core) →
+        devices ≡ devicesAfter (halvesOf (m .plan) (m .areas) (m .devices) (m .ages) answers lent .core) →
+        record { plan = m .plan; areas = areas; devices = devices; ages = m .ages } ≡ afterRound m answers lent
     unfolding afterRound
-    round-accepted areas devices f g = rw (eq-eqb (roundNumberOf m lent) 0 e) (λ i. record { plan = m .plan; areas = f i; devices = g i })
+    round-accepted areas devices f g = rw (eq-eqb (roundNumberOf m lent) 0 e) (λ i. record { plan = m .plan; areas = f i; devices = g i; ages = m .ages })
 
-    pub round-memory-accepted : halvesOf (m .plan) (m .areas) (m .devices) answers lent .memory ≡ memoryAfterRound m answers lent
+    pub round-memory-accepted : halvesOf (m .plan) (m .areas) (m .devices) (m .ages) answers lent .memory ≡ memoryAfterRound m answers lent
     unfolding memoryAfterRound
     round-memory-accepted = rw (eq-eqb (roundNumberOf m lent) 0 e)

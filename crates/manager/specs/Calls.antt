@@ -7,6 +7,7 @@ use lib.Dec.{eqb}
 use lib.ListN.{set}
 use Rattle.arith.specs.Cases.{pick}
 use Rattle.arith.specs.FirstNo.{firstNo}
+use Rattle.arith.specs.Tables.{table}
 use Rattle.machine.specs.Sound.{isSound, coreIn}
 use Rattle.memory.specs.Numbers.{statusNumber}
 use Rattle.memory.specs.declared.DeviceAnswer.{DeviceAnswer}
@@ -15,10 +16,12 @@ use Rattle.memory.specs.declared.LogicalAddress.{LogicalAddress}
 use Rattle.memory.specs.declared.Task.{Task}
 use Rattle.rounds.specs.Close.{waitsIn, areasAfter, devicesAfter, halvesOf}
 use Rattle.rules.specs.Admission.{rangeDevice, jobQuestions, releaseQuestions, cancelQuestions, infoQuestions, memoryInfoQuestions, roundNumber}
-use Rattle.rules.specs.Layout.{layoutOf}
+use Rattle.rules.specs.Layout.{Layout, layoutOf, layoutAt}
 use Rattle.rules.specs.Machine.{Core, begin, cancel, release}
 use Rattle.rules.specs.Memory.{Memory}
+use Rattle.rules.specs.Ranks.{agesAfter}
 use Rattle.rules.specs.Queries.{noRequest, jobInfoOf, noMemoryInfo, memoryInfoOf}
+use Rattle.state.specs.Ages.{ageIn}
 use Rattle.state.specs.Fresh.{noJob, noWaits}
 use Rattle.state.specs.declared.DeviceState.{DeviceState}
 use Rattle.state.specs.declared.Job.{Job}
@@ -30,6 +33,10 @@ use Rattle.manager.specs.declared.Manager.{Manager}
 -- jobs and devices, as the rules see them
 abbrev pub coreOf : Manager → Core
 coreOf m = coreIn (m .areas) (m .devices)
+
+-- the plan with the rank of the moment
+abbrev pub rankedOf : Manager → Layout
+rankedOf m = layoutAt (m .plan) (ageIn (m .ages))
 
 -- question 9, then those of the call: "The first 'no' gives its number."
 abbrev pub numberOf : Manager → List Bool → ℕ
@@ -45,17 +52,28 @@ withArea a j w m =
       plan = m .plan;
       areas = set (m .areas) a (record { job = j; waits = w });
       devices = m .devices;
+      ages = m .ages;
+    }
+
+-- area a with a job that was accepted: also "the order in which pending jobs were accepted" (document 02, 01)
+abbrev pub withAccepted : ℕ → Job → Waits → Manager → Manager
+withAccepted a j w m =
+    record {
+      plan = m .plan;
+      areas = set (m .areas) a (record { job = j; waits = w });
+      devices = m .devices;
+      ages = table 8 (agesAfter a (ageIn (m .ages))) 0 8;
     }
 
 abbrev pub withDevice : ℕ → DeviceState → Manager → Manager
-withDevice d x m = record { plan = m .plan; areas = m .areas; devices = set (m .devices) d (record { state = x }) }
+withDevice d x m = record { plan = m .plan; areas = m .areas; devices = set (m .devices) d (record { state = x }); ages = m .ages }
 
 -- one of the five jobs, or a lock request: "An accepted job makes its area pending and sets processed length and counts to 0"
 unfoldable pub jobNumberOf : Manager → ℕ → Task → ℕ
 jobNumberOf m a t = numberOf m (jobQuestions (m .plan) (coreOf m) a t)
 
 unfoldable pub afterJob : Manager → ℕ → Task → Manager
-afterJob m a t = ifAccepted (jobNumberOf m a t) (withArea a (begin (layoutOf (m .plan)) a t (coreOf m) .jobs a) noWaits m) m
+afterJob m a t = ifAccepted (jobNumberOf m a t) (withAccepted a (begin (layoutOf (m .plan)) a t (coreOf m) .jobs a) noWaits m) m
 
 -- a release: "Release clears the lock."
 unfoldable pub releaseNumberOf : Manager → ℕ → LogicalAddress → ℕ → ℕ
@@ -104,9 +122,11 @@ roundNumberOf m lent = pick (isSound (m .plan) (m .areas) (m .devices)) (roundNu
 
 unfoldable pub afterRound : Manager → List DeviceAnswer → Memory → Manager
 afterRound m answers lent =
-    let after = halvesOf (m .plan) (m .areas) (m .devices) answers lent .core in
-    ifAccepted (roundNumberOf m lent) (record { plan = m .plan; areas = areasAfter (layoutOf (m .plan)) (m .areas) after; devices = devicesAfter after }) m
+    let after = halvesOf (m .plan) (m .areas) (m .devices) (m .ages) answers lent .core in
+    ifAccepted (roundNumberOf m lent)
+    (record { plan = m .plan; areas = areasAfter (rankedOf m) (m .areas) after; devices = devicesAfter after; ages = m .ages })
+    m
 
 -- "lent memory untouched" where it is refused
 unfoldable pub memoryAfterRound : Manager → List DeviceAnswer → Memory → Memory
-memoryAfterRound m answers lent = ifAccepted (roundNumberOf m lent) (halvesOf (m .plan) (m .areas) (m .devices) answers lent .memory) lent
+memoryAfterRound m answers lent = ifAccepted (roundNumberOf m lent) (halvesOf (m .plan) (m .areas) (m .devices) (m .ages) answers lent .memory) lent

@@ -4,12 +4,13 @@ ghost use Rattle.memory.specs.Numbers.{admissionNumber};
 ghost use Rattle.plan.specs.Questions.{loadNumber};
 ghost use Prim.Native.Nat.{_<_};
 ghost use Rattle.memory.specs.declared.JobType.the-variants.{Write, Read, Compare, Erase, BlankCheck, Lock};
-ghost use Rattle.manager.specs.Calls.{withArea, withDevice, jobNumberOf, afterJob, releaseNumberOf, afterRelease, cancelNumberOf, afterCancel, infoNumberOf, statusOf, resultOf, processedOf, noJobInfo, infoOf, memoryInfoNumberOf, memoryOfArea, roundNumberOf, afterRound, memoryAfterRound};
+ghost use Rattle.manager.specs.Calls.{withArea, withAccepted, withDevice, jobNumberOf, afterJob, releaseNumberOf, afterRelease, cancelNumberOf, afterCancel, infoNumberOf, statusOf, resultOf, processedOf, noJobInfo, infoOf, memoryInfoNumberOf, memoryOfArea, roundNumberOf, afterRound, memoryAfterRound};
 ghost use Rattle.machine.specs.Sound.{jobIn};
 ghost use Rattle.rounds.specs.Close.{waitsIn};
 ghost use Rattle.requests.specs.Effects.{memoryOf};
 ghost use Rattle.manager.specs.Load.{freshManager, loadedManager};
 use admission::range_device;
+use jobs::ranks::ages_after;
 use machine::devices::begun_job;
 use machine::devices::cancelled_job;
 use machine::queries::job_info;
@@ -40,11 +41,13 @@ use state::JobInfo;
 use state::MemoryInfo;
 use state::Waits;
 
-// What the plan fixes, and what moves.
+// What the plan fixes, and what moves. An area's age is the number of other areas that had a job accepted since its own
+// latest one: among equal priorities the older is above.
 pub struct Manager {
     pub plan: Plan,
     pub areas: [Area; 8],
     pub devices: [Device; 4],
+    pub ages: [u8; 8],
 }
 
 // The answer to a load, and the manager: of all zeros where the load was refused.
@@ -104,8 +107,8 @@ fn no_job_info() -> JobInfo
 }
 
 impl Manager {
-    fn fresh(plan: Plan) -> Manager
-        ensures { λ r. ⌜ r ≡ freshManager plan ⌝ }
+    fn fresh(plan: Plan, ages: [u8; 8]) -> Manager
+        ensures { λ r. ⌜ r ≡ freshManager plan ages ⌝ }
     {
         let areas = [Area::fresh(); 8];
         let devices = [Device::free(); 4];
@@ -113,6 +116,7 @@ impl Manager {
             plan,
             areas,
             devices,
+            ages,
         }
     }
 
@@ -123,14 +127,33 @@ impl Manager {
         let loaded = load_plan(bytes);
         let answer = loaded.answer;
         let plan = loaded.plan;
-        let manager = Manager::fresh(plan);
-        Loaded { answer, manager }
+        match answer {
+            Admission::Refused(_) => {
+                let manager = Manager::fresh(plan, [0u8; 8]);
+                Loaded { answer, manager }
+            }
+            Admission::Accepted => {
+                let manager = Manager::fresh(plan, [0u8, 1, 2, 3, 4, 5, 6, 7]);
+                Loaded { answer, manager }
+            }
+        }
     }
 
     fn with_area(mut self, area: usize, job: Job, waits: Waits) -> Manager
         requires { ⌜ area < 8 ⌝ }
         ensures { λ r. ⌜ r ≡ withArea area job waits self ⌝ }
     {
+        self.areas[area] = Area { job, waits };
+        self
+    }
+
+    // The area's job is accepted: of all areas it is the youngest.
+    fn with_accepted(mut self, area: usize, job: Job, waits: Waits) -> Manager
+        requires { ⌜ area < 8 ⌝ }
+        ensures { λ r. ⌜ r ≡ withAccepted area job waits self ⌝ }
+    {
+        let ages = ages_after(self.ages, area);
+        self.ages = ages;
         self.areas[area] = Area { job, waits };
         self
     }
@@ -162,7 +185,8 @@ impl Manager {
         entry.job
     }
 
-    // One of the five jobs, or a lock request: accepted, it is pending with nothing processed and all counts 0.
+    // One of the five jobs, or a lock request: accepted, it is pending with nothing processed and all counts 0, and below all
+    // pending jobs of its priority.
     fn submit(self, area: usize, task: Task) -> Answered
         ensures { λ r. ⌜ admissionNumber (r .answer) ≡ jobNumberOf self area task ⌝ }
         ensures { λ r. ⌜ r .manager ≡ afterJob self area task ⌝ }
@@ -181,7 +205,7 @@ impl Manager {
                 let job = begun_job(areas, area, task, asked.retries);
                 let fresh = Area::fresh();
                 let waits = fresh.waits;
-                let manager = self.with_area(area, job, waits);
+                let manager = self.with_accepted(area, job, waits);
                 Answered { answer, manager }
             }
         }
@@ -429,14 +453,16 @@ impl Manager {
                 manager: self,
             },
             Admission::Accepted => {
+                let ages = self.ages;
                 let dues = asked.dues;
-                let next = run_round(plan, answers, areas, devices, dues, image, store);
+                let next = run_round(plan, answers, areas, devices, ages, dues, image, store);
                 let areas = next.areas;
                 let devices = next.devices;
                 let manager = Manager {
                     plan,
                     areas,
                     devices,
+                    ages,
                 };
                 Answered { answer, manager }
             }

@@ -1,4 +1,5 @@
 -- A manager in a reachable state passes the soundness test, so that it answers and does with lent memory what the rules say.
+use Prim.Native.Nat.{ℕ}
 use mathlib.Core.Bool.{Bool, true, false}
 use mathlib.Core.List.{List}
 use mathlib.Core.Path.{_≡_, sym, ap}
@@ -14,10 +15,11 @@ use Rattle.plan.specs.WellFormed.{WellFormed}
 use Rattle.plan.specs.declared.records.Plan.{Plan}
 use Rattle.rounds.specs.Close.{halvesOf}
 use Rattle.rules.specs.Admission.{admits, jobNumber, releaseNumber, cancelNumber, infoNumber, memoryInfoNumber, roundNumber}
-use Rattle.rules.specs.History.{Query, status, result, processed, jobInfo, memoryInfo, Call, submit, releases, cancels, asks, round, History, withCore, lent}
+use Rattle.rules.specs.History.{Query, status, result, processed, jobInfo, memoryInfo, Call, submit, releases, cancels, asks, round, History, lent}
 use Rattle.rules.specs.Layout.{layoutOf}
 use Rattle.rules.specs.Machine.{Core}
 use Rattle.rules.specs.Memory.{Memory}
+use Rattle.rules.specs.RankLaws.{AgesApart}
 use Rattle.rules.specs.Reach.{queryNumber, callNumber}
 use Rattle.rules.specs.Reachable.{Reachable}
 use Rattle.rules.specs.Requests.{AtCuts}
@@ -25,6 +27,7 @@ use Rattle.rules.specs.Round.{roundHalves}
 use Rattle.rules.specs.Session.{memoryOf}
 use Rattle.rounds.specs.Halves.{both, round-bare}
 use Rattle.program.specs.Run.{queryAnswer, answerOf, memoryAfter}
+use Rattle.program.specs.Stands.{agesOf, beside}
 
 -- a manager that does not pass answers 9 to every call
 module _ (m : Manager) (e : isSound (m .plan) (m .areas) (m .devices) ≡ false) where
@@ -44,19 +47,20 @@ module _ (m : Manager) (e : isSound (m .plan) (m .areas) (m .devices) ≡ false)
   unsound-answer (asks q) = unsound-query q
   unsound-answer (round answers given) = rw e
 
--- what holds of the jobs and devices of every history of an accepted load
-pub record Reached (p : Plan) (c : Core) : Type 0 where
+-- what holds of the jobs, devices and ages of every history of an accepted load
+pub record Reached (p : Plan) (c : Core) (ages : ℕ → ℕ) : Type 0 where
   pub well : WellFormed p
   pub reachable : Reachable (layoutOf p) (admits p) c
   pub cuts : AtCuts p c
+  pub apart : AgesApart ages
 
 -- the halves of a round are the history's
 pub halves-are : (m : Manager) (answers : List DeviceAnswer) (given : Memory) (h : History) →
-    both (halvesOf (m .plan) (m .areas) (m .devices) answers given) ≡ both (roundHalves (m .plan) answers (lent given (withCore (coreOf m) h)))
+    both (halvesOf (m .plan) (m .areas) (m .devices) (m .ages) answers given) ≡ both (roundHalves (m .plan) (agesOf m) answers (lent given (beside m h)))
 unfolding halvesOf
-halves-are m answers given h = sym (round-bare (m .plan) answers (lent given (withCore (coreOf m) h)))
+halves-are m answers given h = sym (round-bare (m .plan) answers (agesOf m) (lent given (beside m h)))
 
-module _ (m : Manager) (r : Reached (m .plan) (coreOf m)) where
+module _ (m : Manager) (r : Reached (m .plan) (coreOf m) (agesOf m)) where
   pub sound : isSound (m .plan) (m .areas) (m .devices) ≡ true
   sound = reached-sound (m .plan) (r .well) (m .areas) (m .devices) (r .reachable) (r .cuts)
 
@@ -78,7 +82,7 @@ module _ (m : Manager) (r : Reached (m .plan) (coreOf m)) where
   round-is given = rw sound
 
   -- every call's number
-  pub answer-is : (k : Call) (h : History) → answerOf k m ≡ callNumber (m .plan) k (withCore (coreOf m) h)
+  pub answer-is : (k : Call) (h : History) → answerOf k m ≡ callNumber (m .plan) k (beside m h)
   unfolding jobNumberOf jobNumber releaseNumberOf releaseNumber cancelNumberOf cancelNumber
   answer-is (submit a t) h = number-is _
   answer-is (releases a address n) h = number-is _
@@ -88,6 +92,6 @@ module _ (m : Manager) (r : Reached (m .plan) (coreOf m)) where
 
   -- the lent memory after a round
   pub memory-is : (answers : List DeviceAnswer) (given : Memory) (h : History) → let k = round answers given in
-      memoryAfter k m given ≡ memoryOf (m .plan) k (withCore (coreOf m) h) given
+      memoryAfter k m given ≡ memoryOf (m .plan) k (beside m h) given
   unfolding memoryAfterRound
   memory-is answers given h = rw (round-is given) (ap (λ x. pick (eqb (roundNumber (m .plan) (given .image) (given .store)) 0) (x .1) given) (halves-are m answers given h))

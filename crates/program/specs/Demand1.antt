@@ -10,12 +10,13 @@ use Rattle.arith.specs.Cases.{pick}
 use Rattle.manager.specs.Calls.{coreOf, afterJob, afterRelease, afterCancel, afterRound, memoryAfterRound}
 use Rattle.manager.specs.declared.Manager.{Manager}
 use Rattle.memory.specs.declared.DeviceAnswer.{DeviceAnswer}
-use Rattle.rules.specs.History.{Call, submit, releases, cancels, asks, round, History, withCore}
+use Rattle.rules.specs.History.{Call, submit, releases, cancels, asks, round, History}
 use Rattle.rules.specs.Memory.{Memory}
 use Rattle.rules.specs.Reach.{isRound}
 use Rattle.rules.specs.Statements as Rules
 use Rattle.program.specs.Answers.{Reached, round-is, memory-is}
 use Rattle.program.specs.Run.{answerOf, after, memoryAfter}
+use Rattle.program.specs.Stands.{agesOf, beside}
 use Rattle.program.specs.Statements.{Demand1}
 
 -- a number that is not 0 leaves the second
@@ -45,7 +46,7 @@ other-calls m (asks q) lent e = refl
 other-calls m (round answers given) lent e = absurd (true≢false e)
 
 -- the round is the history's
-pub demand1 : (m : Manager) (h : History) → Reached (m .plan) (coreOf m) → Rules.Demand1 (m .plan) (withCore (coreOf m) h) → Demand1 (m .plan) m
+pub demand1 : (m : Manager) (h : History) → Reached (m .plan) (coreOf m) (agesOf m) → Rules.Demand1 (m .plan) (beside m h) → Demand1 (m .plan) m
 demand1 m h r D =
     record {
       other-calls = other-calls m;

@@ -7,7 +7,7 @@ use lib.ListN.{getD}
 use Rattle.manager.specs.Calls.{coreOf}
 use Rattle.manager.specs.declared.Manager.{Manager}
 use Rattle.rules.specs.Admitted.{job-admitted}
-use Rattle.rules.specs.History.{Call, submit, cancels, round, History, withCore, step}
+use Rattle.rules.specs.History.{Call, submit, cancels, round, History, step}
 use Rattle.rules.specs.Layout.{layoutOf}
 use Rattle.rules.specs.Machine.{Core, isPending, isCancelling, isOwn, waitOf}
 use Rattle.rules.specs.Reach.{requestOf}
@@ -17,15 +17,15 @@ use Rattle.rules.specs.Statements as Rules
 use Rattle.program.specs.Answers.{Reached, answer-is, memory-is}
 use Rattle.program.specs.Kept.{call-kept}
 use Rattle.program.specs.Run.{after}
-use Rattle.program.specs.Stands.{stuck, Stands}
+use Rattle.program.specs.Stands.{stuck, agesOf, beside, Stands}
 use Rattle.program.specs.Statements.{Demand2}
 
-module _ (m : Manager) (h : History) (S : Stands (m .plan) m (withCore (coreOf m) h)) (r : Reached (m .plan) (coreOf m)) where
+module _ (m : Manager) (h : History) (S : Stands (m .plan) m (beside m h)) (r : Reached (m .plan) (coreOf m) (agesOf m)) where
   -- what holds of the history's core after a call holds of the manager's
-  after-call : (k : Call) (P : Core → Type 0) → P (step (m .plan) k (withCore (coreOf m) h) .core) → P (coreOf (after k m))
+  after-call : (k : Call) (P : Core → Type 0) → P (step (m .plan) k (beside m h) .core) → P (coreOf (after k m))
   after-call k P = subst P (sym (call-kept m h S r k .core))
 
-  pub demand2 : (a : ℕ) → Rules.Demand2 (m .plan) (withCore (coreOf m) h) a → Demand2 (m .plan) m (withCore (coreOf m) h) a
+  pub demand2 : (a : ℕ) → Rules.Demand2 (m .plan) (beside m h) a → Demand2 (m .plan) m (beside m h) a
   demand2 a D =
       record {
         joined-so-far = D .joined-so-far;
@@ -58,6 +58,6 @@ module _ (m : Manager) (h : History) (S : Stands (m .plan) m (withCore (coreOf m
         result-so = λ k.
             after-call k
             (λ c. isPending (coreOf m .jobs a) ≡ true → isPending (c .jobs a) ≡ false →
-            Ends (m .plan) (withCore (coreOf m) h) c a k (c .jobs a .result .0) × (c .jobs a .result .0 ≤ 3))
+            Ends (m .plan) (beside m h) c a k (c .jobs a .result .0) × (c .jobs a .result .0 ≤ 3))
             (D .result-so k);
       }

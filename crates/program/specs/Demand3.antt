@@ -8,12 +8,12 @@ use Rattle.manager.specs.Calls.{coreOf, infoNumberOf, infoOf}
 use Rattle.manager.specs.declared.Manager.{Manager}
 use Rattle.rounds.specs.Close.{waitsIn}
 use Rattle.rules.specs.Admission.{infoQuestions, infoNumber}
-use Rattle.rules.specs.History.{jobInfo, asks, History, withCore}
+use Rattle.rules.specs.History.{jobInfo, asks, History}
 use Rattle.rules.specs.Queries.{jobInfoOf}
 use Rattle.rules.specs.Statements as Rules
 use Rattle.program.specs.Answers.{Reached, answer-is}
 use Rattle.program.specs.Run.{answerOf}
-use Rattle.program.specs.Stands.{Stands}
+use Rattle.program.specs.Stands.{agesOf, beside, Stands}
 use Rattle.program.specs.Statements.{Demand3}
 
 -- accepted job info shows the area's waits
@@ -21,13 +21,13 @@ info-waits : (m : Manager) (a : ℕ) → infoNumberOf m a ≡ 0 → infoOf m a .
 unfolding infoOf jobInfoOf
 info-waits m a e = rw e
 
-module _ (m : Manager) (h : History) (S : Stands (m .plan) m (withCore (coreOf m) h)) (r : Reached (m .plan) (coreOf m)) where
+module _ (m : Manager) (h : History) (S : Stands (m .plan) m (beside m h)) (r : Reached (m .plan) (coreOf m) (agesOf m)) where
   -- it is accepted of every known area
   known-accepted : (a : ℕ) → a < m .plan .«area_count» → answerOf (asks (jobInfo a)) m ≡ 0
   unfolding infoNumber infoQuestions firstNo
   known-accepted a l = answer-is m r (asks (jobInfo a)) h ∙ rw (lt-ltb a (m .plan .«area_count») l)
 
-  pub demand3 : (a : ℕ) → Rules.Demand3 (m .plan) (withCore (coreOf m) h) a → Demand3 (m .plan) m (withCore (coreOf m) h) a
+  pub demand3 : (a : ℕ) → Rules.Demand3 (m .plan) (beside m h) a → Demand3 (m .plan) m (beside m h) a
   demand3 a D =
       record {
         numbers = D;

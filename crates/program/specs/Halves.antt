@@ -10,7 +10,7 @@ use Rattle.memory.specs.declared.DeviceAnswer.{DeviceAnswer}
 use Rattle.plan.specs.declared.records.Plan.{Plan}
 use Rattle.rules.specs.Admission.{admits}
 use Rattle.rules.specs.Best.{ready-plain}
-use Rattle.rules.specs.Layout.{Layout, layoutOf}
+use Rattle.rules.specs.Layout.{Layout, layoutOf, layoutAt}
 use Rattle.rules.specs.Machine.{Core, isPending, secondHalf}
 use Rattle.rules.specs.Reachable.{Reachable}
 use Rattle.rules.specs.Requests.{running-on}
@@ -41,7 +41,7 @@ starts-leave-device p (suc n) c d h =
     (λ b _ _ _. upd-other (e .devices) n d _ (λ g. omega arith) ∙ ih)
     (λ b _. upd-other (e .devices) n d _ (λ g. omega arith) ∙ ih)
 
-module _ (p : Plan) (answers : List DeviceAnswer) (h : Half) (reach : Reachable (layoutOf p) (admits p) (h .core)) where
+module _ (p : Plan) (ages : ℕ → ℕ) (answers : List DeviceAnswer) (h : Half) (reach : Reachable (layoutOf p) (admits p) (h .core)) where
   -- the first half leaves an area that is not pending
   answers-leave-job : (n a : ℕ) → isPending (h .core .jobs a) ≡ false → takeAll p answers n h .core .jobs a ≡ h .core .jobs a
   unfolding takeAll
@@ -52,14 +52,14 @@ module _ (p : Plan) (answers : List DeviceAnswer) (h : Half) (reach : Reachable 
       (answers-leave-job n a idle)
 
   -- so a round leaves an area that is not pending
-  pub round-leaves-job : (a : ℕ) → isPending (h .core .jobs a) ≡ false → roundHalves p answers h .core .jobs a ≡ h .core .jobs a
+  pub round-leaves-job : (a : ℕ) → isPending (h .core .jobs a) ≡ false → roundHalves p ages answers h .core .jobs a ≡ h .core .jobs a
   unfolding roundHalves
   round-leaves-job a idle =
       let e = answers-leave-job (p .«device_count») a idle in
-      starts-leave-job (layoutOf p) (p .«device_count») _ a (ap isPending e ∙ idle) ∙ e
+      starts-leave-job (layoutAt p ages) (p .«device_count») _ a (ap isPending e ∙ idle) ∙ e
 
   -- and a device that the plan does not have
-  pub round-leaves-device : (d : ℕ) → p .«device_count» ≤ d → roundHalves p answers h .core .devices d ≡ h .core .devices d
+  pub round-leaves-device : (d : ℕ) → p .«device_count» ≤ d → roundHalves p ages answers h .core .devices d ≡ h .core .devices d
   unfolding roundHalves
   round-leaves-device d l =
-      starts-leave-device (layoutOf p) (p .«device_count») _ d l ∙ untouched p answers h reach (p .«device_count») d l .device
+      starts-leave-device (layoutAt p ages) (p .«device_count») _ d l ∙ untouched p answers h reach (p .«device_count») d l .device

@@ -1,7 +1,7 @@
 -- Every call, accepted or refused, keeps the manager where the history is, and so does every list of calls from an accepted load.
-use Prim.Native.Nat.{ℕ, _<_}
+use Prim.Native.Nat.{ℕ, zero, suc, _<_}
 use mathlib.Core.List.{List, [], _∷_}
-use mathlib.Core.Path.{_≡_, refl, sym, ap, subst₂}
+use mathlib.Core.Path.{_≡_, refl, sym, ap, subst, subst₂, fun-ext}
 use native.Mathlib.Omega.{arith}
 use borrow.Author.Tests.{ltb-true}
 use lib.Dec.{eqb}
@@ -19,16 +19,17 @@ use Rattle.plan.specs.declared.records.Plan.{Plan}
 use Rattle.rules.specs.Admission.{cancelQuestions, cancelNumber}
 use Rattle.rules.specs.Admitted.{job-admitted, release-admitted}
 use Rattle.rules.specs.DoneKept.{done-fits}
-use Rattle.rules.specs.History.{Call, submit, releases, cancels, asks, round, History, withCore, start, step, run}
+use Rattle.rules.specs.History.{Call, submit, releases, cancels, asks, round, History, start, step, run}
 use Rattle.rules.specs.Machine.{Core}
 use Rattle.rules.specs.PlanLaws.{plan-laws}
 use Rattle.rules.specs.Runs.{history-fits}
+use Rattle.state.specs.Ages.{firstAges, ageIn, age-past}
 use Rattle.state.specs.Fresh.{freshArea, freeDevice}
 use Rattle.program.specs.Answers.{Reached, answer-is}
 use Rattle.program.specs.KeptCalls.{job-kept, cancel-kept, release-kept}
 use Rattle.program.specs.KeptRound.{round-kept}
 use Rattle.program.specs.Run.{after, runOf}
-use Rattle.program.specs.Stands.{Stands}
+use Rattle.program.specs.Stands.{agesOf, withCoreAges, beside, Stands}
 
 -- manager and history accept a call by equal numbers
 both-accept : {A B : Type 0} (P : A → B → Type 0) (n k : ℕ) {x y : A} {u v : B} → n ≡ k → (k ≡ 0 → P x u) → P y v →
@@ -40,13 +41,13 @@ cancel-known : (p : Plan) (c : Core) (a : ℕ) → cancelNumber p c a ≡ 0 → 
 unfolding cancelNumber cancelQuestions
 cancel-known p c a e = ltb-true _ _ (none-elim 10 (cancelQuestions p c a) (omega arith) e 0 (omega arith))
 
-module _ (m : Manager) (h : History) (S : Stands (m .plan) m (withCore (coreOf m) h)) (r : Reached (m .plan) (coreOf m)) where
+module _ (m : Manager) (h : History) (S : Stands (m .plan) m (beside m h)) (r : Reached (m .plan) (coreOf m) (agesOf m)) where
   -- every call, where the history's plan and core are the manager's
-  pub call-kept : (k : Call) → Stands (m .plan) (after k m) (step (m .plan) k (withCore (coreOf m) h))
+  pub call-kept : (k : Call) → Stands (m .plan) (after k m) (step (m .plan) k (beside m h))
   unfolding step afterJob afterRelease afterCancel afterRound
   call-kept (submit a t) =
       both-accept (Stands (m .plan)) _ _ (answer-is m r (submit a t) h)
-      (λ e. job-kept m h S a t (omega (arith, job-admitted (m .plan) (coreOf m) a t e .0, r .well .area-most)))
+      (λ e. job-kept m h S (r .apart) a t (omega (arith, job-admitted (m .plan) (coreOf m) a t e .0, r .well .area-most)))
       S
   call-kept (releases a address n) =
       both-accept (Stands (m .plan)) _ _ (answer-is m r (releases a address n) h)
@@ -61,21 +62,21 @@ module _ (m : Manager) (h : History) (S : Stands (m .plan) m (withCore (coreOf m
       both-accept (Stands (m .plan)) _ _ (answer-is m r (round answers given) h) (λ _. round-kept m h S r answers given) S
 
 module _ (p : Plan) (m : Manager) (h : History) (S : Stands p m h) where
-  -- what holds of plan and core of the manager holds of those of the history, and back
-  pub to-history : (P : Plan → Core → Type 0) → P (m .plan) (coreOf m) → P p (h .core)
-  to-history P = subst₂ P (S .plan) (S .core)
+  -- what holds of plan, core and ages of the manager holds of those of the history, and back
+  pub to-history : (P : Plan → Core → (ℕ → ℕ) → Type 0) → P (m .plan) (coreOf m) (agesOf m) → P p (h .core) (h .ages)
+  to-history P x = subst (P p (h .core)) (S .ages) (subst₂ (λ q c. P q c (agesOf m)) (S .plan) (S .core) x)
 
-  pub to-manager : (P : Plan → Core → Type 0) → P p (h .core) → P (m .plan) (coreOf m)
-  to-manager P = subst₂ P (sym (S .plan)) (sym (S .core))
+  pub to-manager : (P : Plan → Core → (ℕ → ℕ) → Type 0) → P p (h .core) (h .ages) → P (m .plan) (coreOf m) (agesOf m)
+  to-manager P x = subst (P (m .plan) (coreOf m)) (sym (S .ages)) (subst₂ (λ q c. P q c (h .ages)) (sym (S .plan)) (sym (S .core)) x)
 
   -- every call
-  pub kept : Reached p (h .core) → (k : Call) → Stands p (after k m) (step p k h)
+  pub kept : Reached p (h .core) (h .ages) → (k : Call) → Stands p (after k m) (step p k h)
   kept r k =
-      to-history (λ q c. Stands q (after k m) (step q k (withCore c h)))
-      (call-kept m h (to-manager (λ q c. Stands q m (withCore c h)) S) (to-manager Reached r) k)
+      to-history (λ q c ages. Stands q (after k m) (step q k (withCoreAges c ages h)))
+      (call-kept m h (to-manager (λ q c ages. Stands q m (withCoreAges c ages h)) S) (to-manager Reached r) k)
 
 -- every list of calls
-runs-kept : (p : Plan) (cs : List Call) (m : Manager) (h : History) → ((ds : List Call) → Reached p (run p ds h .core)) → Stands p m h →
+runs-kept : (p : Plan) (cs : List Call) (m : Manager) (h : History) → ((ds : List Call) → let e = run p ds h in Reached p (e .core) (e .ages)) → Stands p m h →
     Stands p (runOf cs m) (run p cs h)
 unfolding run runOf
 runs-kept p [] m h r S = S
@@ -86,8 +87,20 @@ all-same : {A : Type 0} (n : ℕ) (x : A) (i : ℕ) → getD (replicate n x) i x
 all-same n x i =
     by-ltb i n (λ _ h. getD-replicate n i x x h) (λ _ h. List·getD-eq-default (replicate n x) x (omega (arith, length-replicate n x)))
 
+first-age : (a : ℕ) → ageIn firstAges a ≡ a
+unfolding ageIn
+first-age zero = refl
+first-age (suc zero) = refl
+first-age (suc (suc zero)) = refl
+first-age (suc (suc (suc zero))) = refl
+first-age (suc (suc (suc (suc zero)))) = refl
+first-age (suc (suc (suc (suc (suc zero))))) = refl
+first-age (suc (suc (suc (suc (suc (suc zero)))))) = refl
+first-age (suc (suc (suc (suc (suc (suc (suc zero))))))) = refl
+first-age (suc (suc (suc (suc (suc (suc (suc (suc a)))))))) = sym (age-past firstAges _ (omega arith))
+
 -- the manager of a plan stands at the start
-fresh-stands : (p : Plan) → Stands p (freshManager p) start
+fresh-stands : (p : Plan) → Stands p (freshManager p firstAges) start
 unfolding freshManager start
 fresh-stands p =
     record {
@@ -95,17 +108,23 @@ fresh-stands p =
       areas-length = refl;
       devices-length = refl;
       core = λ i. record { jobs = λ a. all-same 8 freshArea a i .job; devices = λ d. all-same 4 freeDevice d i .state };
+      ages = fun-ext first-age;
       waits = λ a _. ap (λ x. x .waits) (all-same 8 freshArea a);
     }
 
 module _ (l : List ℕ) (e : loadNumber l ≡ 0) where
   -- every history of an accepted load
-  pub reached : (cs : List Call) → Reached (planOf l) (run (planOf l) cs start .core)
+  pub reached : (cs : List Call) → let h = run (planOf l) cs start in Reached (planOf l) (h .core) (h .ages)
   reached cs =
       let p = planOf l in
       let w : WellFormed p = accepted l .0 e .1 in
       let fits = history-fits p (plan-laws p w) in
-      record { well = w; reachable = fits cs .reachable; cuts = λ a _. done-fits p w (λ ds. fits ds .reachable) cs a .cut }
+      record {
+        well = w;
+        reachable = fits cs .reachable;
+        cuts = λ a _. done-fits p w (λ ds. fits ds .reachable) cs a .cut;
+        apart = fits cs .apart;
+      }
 
   -- an accepted load, then every list of calls
   pub run-stands : (cs : List Call) → Stands (planOf l) (runOf cs (loadedManager l)) (run (planOf l) cs start)

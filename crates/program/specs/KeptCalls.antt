@@ -6,7 +6,7 @@ use native.Mathlib.Omega.{arith}
 use lib.ListN.{length-set}
 use Rattle.arith.specs.Cases.{by-ltb}
 use Rattle.arith.specs.Parts.{upd, upd-same, upd-other, upd-case, same-or}
-use Rattle.manager.specs.Calls.{coreOf, withArea, withDevice}
+use Rattle.manager.specs.Calls.{coreOf, withArea, withAccepted, withDevice}
 use Rattle.manager.specs.declared.Manager.{Manager}
 use Rattle.memory.specs.declared.Task.{Task}
 use Rattle.rounds.specs.Close.{waitsIn}
@@ -14,6 +14,7 @@ use Rattle.rules.specs.History.{noTally, History, withCore, submitted}
 use Rattle.rules.specs.Layout.{Layout, layoutOf}
 use Rattle.rules.specs.Machine as Machine
 use Rattle.rules.specs.Machine.{Core, withJob, isOwn, waitOf, begun, begin, cancelIf, cancel, release}
+use Rattle.rules.specs.RankLaws.{AgesApart}
 use Rattle.rules.specs.SecondHalf.{Busy}
 use Rattle.state.specs.Fresh.{noWaits, freshArea}
 use Rattle.state.specs.declared.DeviceState.{DeviceState}
@@ -21,7 +22,8 @@ use Rattle.state.specs.declared.DeviceState.the-variants.{Free, LockedFor}
 use Rattle.state.specs.declared.Job.{Job}
 use Rattle.state.specs.declared.Waits.{Waits}
 use Rattle.machine.specs.Arrays.{view-set, job-set, state-set, state-past}
-use Rattle.program.specs.Stands.{stuck, Stands}
+use Rattle.program.specs.Arrays.{ages-set}
+use Rattle.program.specs.Stands.{stuck, agesOf, beside, Stands}
 
 -- A job, a cancel or a release changes one entry of the core: with what it makes of that entry, the rest as it was, it is the whole core.
 begun-core : (p : Layout) (a : ℕ) (t : Task) (c : Core) → withJob a (begin p a t c .jobs a) c ≡ begin p a t c
@@ -40,7 +42,7 @@ released-core : (d : ℕ) (c : Core) → Machine.withDevice d (release d c .devi
 unfolding release
 released-core d c = ap (λ x. Machine.withDevice d x c) (upd-same (c .devices) d Free)
 
-module _ (m : Manager) (h : History) (S : Stands (m .plan) m (withCore (coreOf m) h)) where
+module _ (m : Manager) (h : History) (S : Stands (m .plan) m (beside m h)) where
   -- area a gets job j and waits w
   area-core : (a : ℕ) (j : Job) (w : Waits) → a < 8 → coreOf (withArea a j w m) ≡ withJob a j (coreOf m)
   area-core a j w l =
@@ -58,15 +60,16 @@ module _ (m : Manager) (h : History) (S : Stands (m .plan) m (withCore (coreOf m
   area-waits a j w l = view-set (λ x. x .waits) (m .areas) freshArea a (record { job = j; waits = w }) (rw (S .areas-length) l)
 
   -- an accepted job
-  pub job-kept : (a : ℕ) (t : Task) → a < 8 →
-      Stands (m .plan) (withArea a (begin (layoutOf (m .plan)) a t (coreOf m) .jobs a) noWaits m) (submitted (m .plan) a t (withCore (coreOf m) h))
+  pub job-kept : AgesApart (agesOf m) → (a : ℕ) (t : Task) → a < 8 →
+      Stands (m .plan) (withAccepted a (begin (layoutOf (m .plan)) a t (coreOf m) .jobs a) noWaits m) (submitted (m .plan) a t (beside m h))
   unfolding submitted
-  job-kept a t l =
+  job-kept apart a t l =
       record {
         plan = refl;
         areas-length = rw length-set (S .areas-length);
         devices-length = S .devices-length;
         core = area-core a _ noWaits l ∙ begun-core (layoutOf (m .plan)) a t (coreOf m);
+        ages = ages-set (m .ages) apart a l;
         waits = λ b g.
             area-waits a _ noWaits l b
             ∙ same-or (λ b. b < 8 → upd (waitsIn (m .areas)) a noWaits b ≡ stuck (upd (h .tallies) a noTally b)) a b
@@ -77,13 +80,14 @@ module _ (m : Manager) (h : History) (S : Stands (m .plan) m (withCore (coreOf m
 
   -- an accepted cancel
   pub cancel-kept : (a : ℕ) → a < 8 → let e = cancel (layoutOf (m .plan)) a (coreOf m) in
-      Stands (m .plan) (withArea a (e .jobs a) (waitsIn (m .areas) a) m) (withCore e h)
+      Stands (m .plan) (withArea a (e .jobs a) (waitsIn (m .areas) a) m) (withCore e (beside m h))
   cancel-kept a l =
       record {
         plan = refl;
         areas-length = rw length-set (S .areas-length);
         devices-length = S .devices-length;
         core = area-core a _ (waitsIn (m .areas) a) l ∙ cancelled-core (layoutOf (m .plan)) a (coreOf m);
+        ages = refl;
         waits = λ b g.
             area-waits a _ (waitsIn (m .areas) a) l b
             ∙ upd-case (λ w. w ≡ stuck (h .tallies b)) (waitsIn (m .areas)) a b (waitsIn (m .areas) a)
@@ -99,12 +103,13 @@ module _ (m : Manager) (h : History) (S : Stands (m .plan) m (withCore (coreOf m
 
   -- an accepted release
   pub release-kept : (d a : ℕ) → coreOf m .devices d ≡ LockedFor a → let e = release d (coreOf m) in
-      Stands (m .plan) (withDevice d (e .devices d) m) (withCore e h)
+      Stands (m .plan) (withDevice d (e .devices d) m) (withCore e (beside m h))
   release-kept d a e =
       record {
         plan = refl;
         areas-length = S .areas-length;
         devices-length = rw length-set (S .devices-length);
         core = device-core d _ (locked-known d a e) ∙ released-core d (coreOf m);
+        ages = refl;
         waits = S .waits;
       }

@@ -7,6 +7,8 @@ use Rattle.manager.specs.declared.Manager.{Manager}
 use Rattle.plan.specs.declared.records.Plan.{Plan}
 use Rattle.rounds.specs.Close.{mostWaits, waitsIn}
 use Rattle.rules.specs.History.{Tally, History}
+use Rattle.rules.specs.Machine.{Core}
+use Rattle.state.specs.Ages.{ageIn}
 use Rattle.state.specs.declared.Waits.{Waits}
 
 -- "each as the wait book of document 01 has it, or as 4,294,967,295 if that is smaller"
@@ -19,6 +21,18 @@ stuck w =
       locked = min (w .locked) mostWaits;
     }
 
+-- the ages of a manager's areas
+abbrev pub agesOf : Manager → ℕ → ℕ
+agesOf m = ageIn (m .ages)
+
+-- history h with these jobs and devices, and these ages
+abbrev pub withCoreAges : Core → (ℕ → ℕ) → History → History
+withCoreAges c ages h = record { core = c; ages = ages; tallies = h .tallies; done = h .done }
+
+-- the history's numbers and done requests, beside the jobs, devices and ages of the manager itself
+abbrev pub beside : Manager → History → History
+beside m h = withCoreAges (coreOf m) (agesOf m) h
+
 -- manager m of plan p stands where history h does
 pub record Stands (p : Plan) (m : Manager) (h : History) : Type 0 where
   pub plan : m .plan ≡ p
@@ -26,4 +40,6 @@ pub record Stands (p : Plan) (m : Manager) (h : History) : Type 0 where
   pub devices-length : length (m .devices) ≡ 4
   -- every area's job, and what every device does
   pub core : coreOf m ≡ h .core
+  -- the order of acceptance
+  pub ages : agesOf m ≡ h .ages
   pub waits : (a : ℕ) → a < 8 → waitsIn (m .areas) a ≡ stuck (h .tallies a)

@@ -1,13 +1,14 @@
--- document 00: the three demands of the program. Manager m is the one that a list of calls returned, history h the wait history of the same
+-- document 00: the three demands of the program, and document 02, 01. Manager m is the one that a list of calls returned, history h the wait history of the same
 -- calls; `answerOf`, `after` and `memoryAfter` (Run) are what the calls' contracts say of the next call.
 use Prim.Native.Nat.{ℕ, _+_, _≤_, _<_}
-use mathlib.Core.Bool.{true, false}
+use mathlib.Core.Bool.{Bool, true, false, not}
 use mathlib.Core.List.{List, []}
 use mathlib.Core.Logic.{_≢_}
 use mathlib.Core.Path.{_≡_}
+use lib.Dec.{ltb}
 use lib.ListN.{getD}
 use Rattle.machine.specs.Sound.{isSound}
-use Rattle.manager.specs.Calls.{coreOf, infoOf}
+use Rattle.manager.specs.Calls.{coreOf, rankedOf, infoOf}
 use Rattle.manager.specs.Load.{zeroManager, loadedManager}
 use Rattle.manager.specs.declared.Manager.{Manager}
 use Rattle.memory.specs.declared.DeviceAnswer.{DeviceAnswer}
@@ -18,8 +19,8 @@ use Rattle.plan.specs.Questions.{loadNumber}
 use Rattle.plan.specs.Records.{planOf}
 use Rattle.plan.specs.declared.records.Plan.{Plan}
 use Rattle.rounds.specs.Close.{waitsIn}
-use Rattle.rules.specs.History.{jobInfo, Call, submit, cancels, asks, round, History, withCore, start, step, run}
-use Rattle.rules.specs.Layout.{layoutOf}
+use Rattle.rules.specs.History.{jobInfo, Call, submit, cancels, asks, round, History, start, step, run}
+use Rattle.rules.specs.Layout.{priorityOf, layoutOf}
 use Rattle.rules.specs.Machine.{isPending, isCancelling, isOwn, waitOf}
 use Rattle.rules.specs.Memory.{Memory}
 use Rattle.rules.specs.Reach.{callNumber, isRound, requestOf}
@@ -32,11 +33,7 @@ use Rattle.segment.specs.Segments.{isLock}
 use Rattle.state.specs.Fresh.{noWaits}
 use Rattle.state.specs.declared.DeviceState.the-variants.{Runs}
 use Rattle.program.specs.Run.{answerOf, after, memoryAfter, runOf}
-use Rattle.program.specs.Stands.{stuck, Stands}
-
--- the history's numbers and done requests, beside the jobs and devices of the manager itself
-abbrev pub beside : Manager → History → History
-beside m h = withCore (coreOf m) h
+use Rattle.program.specs.Stands.{stuck, beside, Stands}
 
 -- "The lent memory, which is the chip image and the job store, changes only in a round, and only inside requests that the round finishes
 -- and the rules of document 01 let change it. Every input gets an answer; a refused call leaves image, store and manager as they were."
@@ -98,6 +95,23 @@ pub record Demand3 (p : Plan) (m : Manager) (h : History) (a : ℕ) : Type 0 whe
   -- those in job info."
   pub reported : a < p .«area_count» → (answerOf (asks (jobInfo a)) m ≡ 0) × (infoOf m a .waits ≡ stuck (h .tallies a))
 
+-- area a ranks above area b: the rank by which a round of the manager picks and counts (`afterRound`)
+abbrev pub isAbove : Manager → ℕ → ℕ → Bool
+isAbove m = rankedOf m .outranks
+
+-- document 02, 01: "Areas of equal priority shall be ranked by acceptance: the earlier accepted job is above."
+pub record FirstCome (p : Plan) (m : Manager) : Type 0 where
+  -- "the larger priority is above"
+  pub larger-above : (a b : ℕ) → priorityOf p b < priorityOf p a → isAbove m a b ≡ true
+  -- of two areas one is above the other
+  pub one-above : (a b : ℕ) → a ≢ b → isAbove m a b ≡ not (isAbove m b a)
+  -- an accepted job, a lock request too, has every other pending job of its priority above it
+  pub accepted-last : (a : ℕ) (t : Task) → let k = submit a t in answerOf k m ≡ 0 →
+      (b : ℕ) → b ≢ a → isPending (coreOf (after k m) .jobs b) ≡ true → priorityOf p b ≡ priorityOf p a → isAbove (after k m) b a ≡ true
+  -- no call changes which of two pending jobs is above
+  pub kept : (k : Call) (a b : ℕ) → isPending (coreOf m .jobs a) ≡ true → isPending (coreOf m .jobs b) ≡ true →
+      isAbove (after k m) a b ≡ isAbove m a b
+
 -- All that holds of the program after a list of calls.
 pub record Holds (p : Plan) (m : Manager) (h : History) : Type 0 where
   -- "Every state reached from an accepted load passes it", the soundness test
@@ -109,11 +123,19 @@ pub record Holds (p : Plan) (m : Manager) (h : History) : Type 0 where
   pub demand1 : Demand1 p m
   pub demand2 : (a : ℕ) → Demand2 p m h a
   pub demand3 : (a : ℕ) → Demand3 p m h a
+  pub first-come : FirstCome p m
 
 -- "after every list of jobs, locks, releases, cancels, queries and rounds from an accepted load, refused ones included, whatever the chips
 -- answer and whatever image and store hold"
 abbrev pub AllCalls : Type 0
 AllCalls = (l : List ℕ) → loadNumber l ≡ 0 → (cs : List Call) → Holds (planOf l) (runOf cs (loadedManager l)) (run (planOf l) cs start)
+
+-- "the earlier accepted job is above": of two pending jobs of one priority the one that an earlier call of the list accepted. Which call
+-- that was is a definition over the plan and the calls (`acceptedAt`, rules/Statements).
+abbrev pub AllRanked : Type 0
+AllRanked = (l : List ℕ) → loadNumber l ≡ 0 → (cs : List Call) → let p = planOf l in let m = runOf cs (loadedManager l) in
+    (a b : ℕ) → a ≢ b → isPending (coreOf m .jobs a) ≡ true → isPending (coreOf m .jobs b) ≡ true → priorityOf p a ≡ priorityOf p b →
+    isAbove m a b ≡ ltb (Rules.acceptedAt p cs a) (Rules.acceptedAt p cs b)
 
 -- "the manager of all zeros does not": every call on it is answered by 9, and that manager is what a refused load returns
 pub record Unloaded : Type 0 where

@@ -11,6 +11,7 @@ use Rattle.rules.specs.Layout.{Layout}
 use Rattle.rules.specs.Machine.{Core, Wait, own, above, below, locked, none, isPending, waitOf}
 use Rattle.rules.specs.Memory.{Memory}
 use Rattle.rules.specs.Round.{Half, roundHalves}
+use Rattle.state.specs.Ages.{ageIn}
 use Rattle.state.specs.Fresh.{freshArea, freeDevice}
 use Rattle.state.specs.declared.Area.{Area}
 use Rattle.state.specs.declared.Device.{Device}
@@ -64,5 +65,5 @@ devicesAfter after = table 4 (deviceAfter after) freeDevice 4
 abbrev pub lentTo : List Area → List Device → Memory → Half
 lentTo areas devices m = record { core = coreIn areas devices; memory = m; done = λ a. [] }
 
-unfoldable pub halvesOf : Plan → List Area → List Device → List DeviceAnswer → Memory → Half
-halvesOf p areas devices answers m = roundHalves p answers (lentTo areas devices m)
+unfoldable pub halvesOf : Plan → List Area → List Device → List ℕ → List DeviceAnswer → Memory → Half
+halvesOf p areas devices ages answers m = roundHalves p (ageIn ages) answers (lentTo areas devices m)

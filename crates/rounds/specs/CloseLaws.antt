@@ -10,15 +10,17 @@ use Rattle.machine.specs.Sound.{jobIn, stateIn, coreIn}
 use Rattle.plan.specs.Questions.{areaOf}
 use Rattle.plan.specs.Records.{noArea}
 use Rattle.plan.specs.declared.records.AreaRecord.{AreaRecord}
-use Rattle.rules.specs.Layout.{Layout, ranksAbove}
+use Rattle.rules.specs.Layout.{Layout}
 use Rattle.rules.specs.Machine as Machine
+use Rattle.rules.specs.Ranks.{rankAbove}
+use Rattle.state.specs.Ages.{ageIn}
 use Rattle.state.specs.Fresh.{freshArea}
 use Rattle.state.specs.declared.Area.{Area}
 use Rattle.state.specs.declared.Device.{Device}
 use Rattle.state.specs.declared.DeviceState.{DeviceState}
 use Rattle.state.specs.declared.DeviceState.the-variants.{Free, Runs, LockedFor}
 use Rattle.rounds.specs.Close.{closed, waitsIn, areaAfter}
-use Rattle.rounds.specs.Picks.{needsLayout, rankAbove}
+use Rattle.rounds.specs.Picks.{needsLayout}
 use Rattle.rounds.specs.declared.close.Wait.{Wait}
 use Rattle.rounds.specs.declared.close.Wait.the-variants as Waiting
 
@@ -30,47 +32,48 @@ waitIs Waiting.Locked = Machine.locked
 waitIs Waiting.Nothing = Machine.none
 
 -- what the rank of areas asks of a plan
-abbrev pub rankLayout : List AreaRecord → Layout
-rankLayout records = needsLayout records 0 []
+abbrev pub rankLayout : List AreaRecord → List ℕ → Layout
+rankLayout records ages = needsLayout records ages 0 []
 
 -- an area when the round closes, by the state of the device that its job needs
-abbrev pub closedArea : List AreaRecord → ℕ → Area → Area → DeviceState → Area
-closedArea records a before after x =
+abbrev pub closedArea : List AreaRecord → List ℕ → ℕ → Area → Area → DeviceState → Area
+closedArea records ages a before after x =
     record {
       job = after .job;
-      waits = closed (Machine.isPending (before .job)) (Machine.isPending (after .job)) (Machine.waitOn (rankLayout records) a x) (before .waits);
+      waits = closed (Machine.isPending (before .job)) (Machine.isPending (after .job)) (Machine.waitOn (rankLayout records ages) a x) (before .waits);
     }
 
 -- an area that the plan's array has no record of
 pub no-priority : (records : List AreaRecord) (a n : ℕ) → length records ≡ n → n ≤ a → 0 ≡ areaOf records a .priority
 no-priority records a n e h = sym (ap (λ x. x .priority) (List·getD-eq-default records noArea (omega (arith, e, h))))
 
-module _ (records : List AreaRecord) (a b : ℕ) where
-  pub behind-own : b ≡ a → Machine.own ≡ Machine.behind (rankLayout records) a b
+module _ (records : List AreaRecord) (ages : List ℕ) (a b : ℕ) where
+  pub behind-own : b ≡ a → Machine.own ≡ Machine.behind (rankLayout records ages) a b
   unfolding Machine.behind
   behind-own e = rw (eq-eqb b a e)
 
-  module _ (other : b ≡ a → ⊥) (p q : ℕ) (is : p ≡ areaOf records b .priority) (at : q ≡ areaOf records a .priority) where
-    pub behind-above : rankAbove p b q a ≡ true → Machine.above ≡ Machine.behind (rankLayout records) a b
-    unfolding Machine.behind needsLayout ranksAbove
-    behind-above e = rw (ne-eqb b a other, ← is, ← at, e)
+  module _ (other : b ≡ a → ⊥) (p q : ℕ) (is : p ≡ areaOf records b .priority) (at : q ≡ areaOf records a .priority)
+      (x y : ℕ) (old : x ≡ ageIn ages b) (young : y ≡ ageIn ages a) where
+    pub behind-above : rankAbove p x q y ≡ true → Machine.above ≡ Machine.behind (rankLayout records ages) a b
+    unfolding Machine.behind needsLayout
+    behind-above e = rw (ne-eqb b a other, ← is, ← at, ← old, ← young, e)
 
-    pub behind-below : rankAbove p b q a ≡ false → Machine.below ≡ Machine.behind (rankLayout records) a b
-    unfolding Machine.behind needsLayout ranksAbove
-    behind-below e = rw (ne-eqb b a other, ← is, ← at, e)
+    pub behind-below : rankAbove p x q y ≡ false → Machine.below ≡ Machine.behind (rankLayout records ages) a b
+    unfolding Machine.behind needsLayout
+    behind-below e = rw (ne-eqb b a other, ← is, ← at, ← old, ← young, e)
 
 -- the same by the layout with the needs
-wait-same : (records : List AreaRecord) (needs : List ℕ) (a : ℕ) (x : DeviceState) →
-    Machine.waitOn (rankLayout records) a x ≡ Machine.waitOn (needsLayout records 0 needs) a x
+wait-same : (records : List AreaRecord) (ages needs : List ℕ) (a : ℕ) (x : DeviceState) →
+    Machine.waitOn (rankLayout records ages) a x ≡ Machine.waitOn (needsLayout records ages 0 needs) a x
 unfolding Machine.behind needsLayout
-wait-same records needs a Free = refl
-wait-same records needs a (LockedFor b) = refl
-wait-same records needs a (Runs b polls) = refl
+wait-same records ages needs a Free = refl
+wait-same records ages needs a (LockedFor b) = refl
+wait-same records ages needs a (Runs b polls) = refl
 
-pub close-turn : (records : List AreaRecord) (needs : List ℕ) (before after : List Area) (devices : List Device) (a : ℕ) (x : DeviceState) →
+pub close-turn : (records : List AreaRecord) (ages needs : List ℕ) (before after : List Area) (devices : List Device) (a : ℕ) (x : DeviceState) →
     x ≡ stateIn devices (getD needs a 0) →
-    closedArea records a (getD before a freshArea) (getD after a freshArea) x ≡ areaAfter (needsLayout records 0 needs) before (coreIn after devices) a
+    closedArea records ages a (getD before a freshArea) (getD after a freshArea) x ≡ areaAfter (needsLayout records ages 0 needs) before (coreIn after devices) a
 unfolding needsLayout
-close-turn records needs before after devices a x e =
+close-turn records ages needs before after devices a x e =
     ap (λ k. record { job = jobIn after a; waits = closed (Machine.isPending (jobIn before a)) (Machine.isPending (jobIn after a)) k (waitsIn before a) })
-    (ap (Machine.waitOn (rankLayout records) a) e ∙ wait-same records needs a (stateIn devices (getD needs a 0)))
+    (ap (Machine.waitOn (rankLayout records ages) a) e ∙ wait-same records ages needs a (stateIn devices (getD needs a 0)))

@@ -5,7 +5,7 @@ use mathlib.Core.Path.{_≡_, refl, ap}
 use native.Mathlib.Numerals.{add-one}
 use Rattle.memory.specs.declared.DeviceAnswer.{DeviceAnswer}
 use Rattle.plan.specs.declared.records.Plan.{Plan}
-use Rattle.rules.specs.Layout.{layoutOf}
+use Rattle.rules.specs.Layout.{layoutAt}
 use Rattle.rules.specs.Machine.{Core, secondHalf}
 use Rattle.rules.specs.Memory.{Memory}
 use Rattle.rules.specs.Round.{Half, answerOf, takeIn, takeAll, roundHalves}
@@ -25,9 +25,9 @@ module _ (p : Plan) (answers : List DeviceAnswer) where
   take-bare h zero = refl
   take-bare h (suc n) = ap (λ x. both (takeIn p n (answerOf answers n) (bare x))) (take-bare h n)
 
-  pub round-bare : (h : Half) → both (roundHalves p answers h) ≡ both (roundHalves p answers (bare (both h)))
+  pub round-bare : (ages : ℕ → ℕ) (h : Half) → both (roundHalves p ages answers h) ≡ both (roundHalves p ages answers (bare (both h)))
   unfolding roundHalves
-  round-bare h = ap (λ x. (secondHalf (layoutOf p) (p .«device_count») (x .0), x .1)) (take-bare h (p .«device_count»))
+  round-bare ages h = ap (λ x. (secondHalf (layoutAt p ages) (p .«device_count») (x .0), x .1)) (take-bare h (p .«device_count»))
 
   -- a turn of the loop over the devices
   pub take-turn : (h : Half) (n : ℕ) (x : Core × Memory) → x ≡ both (takeAll p answers n h) →

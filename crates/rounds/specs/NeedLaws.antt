@@ -12,13 +12,14 @@ use Rattle.machine.specs.Dues.{Due}
 use Rattle.machine.specs.Sound.{jobIn, stateIn, coreIn}
 use Rattle.memory.specs.declared.DeviceAnswer.{DeviceAnswer}
 use Rattle.plan.specs.declared.records.Plan.{Plan}
-use Rattle.rules.specs.Layout.{Layout, layoutOf}
+use Rattle.rules.specs.Layout.{Layout, layoutOf, layoutAt}
 use Rattle.rules.specs.Machine.{Core, Choice, nobody, area, isPending, need, ready, better, best, startChoice, startOn, start, secondHalf, behind, waitOn, waitOf}
 use Rattle.rules.specs.Memory.{Memory}
 use Rattle.rules.specs.Round.{takeAll, roundHalves}
 use Rattle.rules.specs.StepLaws.{start-case}
 use Rattle.segment.specs.Segments.{noSegment}
 use Rattle.segment.specs.declared.Segment.{Segment}
+use Rattle.state.specs.Ages.{ageIn}
 use Rattle.state.specs.Fresh.{freshArea, freeDevice}
 use Rattle.state.specs.declared.Area.{Area}
 use Rattle.state.specs.declared.Device.{Device}
@@ -36,51 +37,55 @@ pub needs-found : (p : Plan) (dues : List Segment) (c : Core) → Due p dues (c 
 unfolding needsOf layoutOf
 needs-found p dues c found a h e = table-at 8 (λ i. getD dues i noSegment .device) 0 8 a 0 h (omega arith) ∙ ap (λ s. s .device) (found a h e)
 
-module _ (p : Plan) (few : p .«area_count» ≤ 8) (needs : List ℕ) where
-  abbrev found : Layout
-  found = needsLayout (p .areas) (p .«area_count») needs
+module _ (p : Plan) (few : p .«area_count» ≤ 8) (ages needs : List ℕ) where
+  -- the rules' own layout
+  abbrev asked : Layout
+  asked = layoutAt p (ageIn ages)
 
-  ready-same : (c : Core) → Needed p needs c → (d a : ℕ) → a < 8 → ready found c d a ≡ ready (layoutOf p) c d a
+  abbrev found : Layout
+  found = needsLayout (p .areas) ages (p .«area_count») needs
+
+  ready-same : (c : Core) → Needed p needs c → (d a : ℕ) → a < 8 → ready found c d a ≡ ready asked c d a
   unfolding ready needsLayout
   ready-same c n d a h = by-bool (isPending (c .jobs a)) (λ e. rw (e, n a h e)) (λ e. rw e)
 
-  better-same : (a : ℕ) (x : Choice) → better found a x ≡ better (layoutOf p) a x
+  better-same : (a : ℕ) (x : Choice) → better found a x ≡ better asked a x
   unfolding needsLayout layoutOf
   better-same a nobody = refl
   better-same a (area b) = refl
 
-  best-same : (c : Core) → Needed p needs c → (d n : ℕ) → n ≤ 8 → best found c d n ≡ best (layoutOf p) c d n
+  best-same : (c : Core) → Needed p needs c → (d n : ℕ) → n ≤ 8 → best found c d n ≡ best asked c d n
   unfolding best
   best-same c n d zero h = refl
   best-same c n d (suc a) h =
-      rw (ready-same c n d a (omega arith), best-same c n d a (omega arith), better-same a (best (layoutOf p) c d a))
+      rw (ready-same c n d a (omega arith), best-same c n d a (omega arith), better-same a (best asked c d a))
 
-  start-same : (c : Core) → Needed p needs c → (d : ℕ) → start found d c ≡ start (layoutOf p) d c
+  start-same : (c : Core) → Needed p needs c → (d : ℕ) → start found d c ≡ start asked d c
   unfolding start needsLayout layoutOf
   start-same c n d = go (c .devices d)
     where
-      go : (x : DeviceState) → startOn found d x c ≡ startOn (layoutOf p) d x c
+      go : (x : DeviceState) → startOn found d x c ≡ startOn asked d x c
       go Free = ap (λ x. startChoice d x c) (best-same c n d (p .«area_count») few)
       go (Runs a polls) = refl
       go (LockedFor a) = refl
 
   -- a lock request that ends is not pending, and nothing else in a job changes
-  start-needed : (c : Core) → Needed p needs c → (d : ℕ) → Needed p needs (start (layoutOf p) d c)
+  start-needed : (c : Core) → Needed p needs c → (d : ℕ) → Needed p needs (start asked d c)
   start-needed c n d =
-      start-case (Needed p needs) (layoutOf p) d c n
-      (λ a _ _ _ b h. upd-case (λ j. isPending j ≡ true → getD needs b 0 ≡ need (layoutOf p) b j) (c .jobs) a b _ (λ _ e. absurd (false≢true e)) (λ _. n b h))
+      start-case (Needed p needs) asked d c n
+      (λ a _ _ _ b h. upd-case (λ j. isPending j ≡ true → getD needs b 0 ≡ need asked b j) (c .jobs) a b _ (λ _ e. absurd (false≢true e)) (λ _. n b h))
       (λ a _. n)
 
   pub second-same : (n : ℕ) (c : Core) → Needed p needs c →
-      (secondHalf found n c ≡ secondHalf (layoutOf p) n c) × Needed p needs (secondHalf (layoutOf p) n c)
+      (secondHalf found n c ≡ secondHalf asked n c) × Needed p needs (secondHalf asked n c)
   unfolding secondHalf
   second-same zero c e = (refl, e)
   second-same (suc n) c e =
       let ih = second-same n c e in
-      let after = secondHalf (layoutOf p) n c in
+      let after = secondHalf asked n c in
       (ap (start found n) (ih .0) ∙ start-same after (ih .1) n, start-needed after (ih .1) n)
 
-  wait-same : (a : ℕ) (x : DeviceState) → waitOn (needsLayout (p .areas) 0 needs) a x ≡ waitOn (layoutOf p) a x
+  wait-same : (a : ℕ) (x : DeviceState) → waitOn (needsLayout (p .areas) ages 0 needs) a x ≡ waitOn asked a x
   unfolding behind needsLayout layoutOf
   wait-same a Free = refl
   wait-same a (Runs b polls) = refl
@@ -88,15 +93,15 @@ module _ (p : Plan) (few : p .«area_count» ≤ 8) (needs : List ℕ) where
 
   -- a job that is no longer pending counts nothing
   closed-same : (c : Core) → Needed p needs c → (a : ℕ) → a < 8 → (was : Bool) (w : Waits) →
-      closed was (isPending (c .jobs a)) (waitOf (needsLayout (p .areas) 0 needs) c a) w ≡ closed was (isPending (c .jobs a)) (waitOf (layoutOf p) c a) w
+      closed was (isPending (c .jobs a)) (waitOf (needsLayout (p .areas) ages 0 needs) c a) w ≡ closed was (isPending (c .jobs a)) (waitOf asked c a) w
   unfolding needsLayout
   closed-same c n a h was w =
       by-bool (isPending (c .jobs a))
       (λ e. ap (λ k. closed was (isPending (c .jobs a)) k w)
-      (ap (λ d. waitOn (needsLayout (p .areas) 0 needs) a (c .devices d)) (n a h e) ∙ wait-same a (c .devices (need (layoutOf p) a (c .jobs a)))))
+      (ap (λ d. waitOn (needsLayout (p .areas) ages 0 needs) a (c .devices d)) (n a h e) ∙ wait-same a (c .devices (need asked a (c .jobs a)))))
       (λ e. rw e (by-bool was (λ f. rw f) (λ f. rw f)))
 
-  pub close-same : (before : List Area) (c : Core) → Needed p needs c → areasAfter (needsLayout (p .areas) 0 needs) before c ≡ areasAfter (layoutOf p) before c
+  pub close-same : (before : List Area) (c : Core) → Needed p needs c → areasAfter (needsLayout (p .areas) ages 0 needs) before c ≡ areasAfter asked before c
   unfolding areasAfter
   close-same before c n =
       table-same 8 _ _ freshArea 8 λ a h i.
@@ -108,37 +113,37 @@ unfolding devicesAfter
 devices-whole l c e f = table-whole 4 (deviceAfter c) freeDevice l e (λ d _. λ i. record { state = f i d })
 
 -- a whole round: what the code's parts made, in their order, is what the rules make
-module _ (p : Plan) (areas : List Area) (devices : List Device) (answers : List DeviceAnswer) (m : Memory) (few : p .«area_count» ≤ 8)
+module _ (p : Plan) (areas : List Area) (devices : List Device) (ages : List ℕ) (answers : List DeviceAnswer) (m : Memory) (few : p .«area_count» ≤ 8)
     (taken : List Area) (free : List Device) (first : coreIn taken free ≡ takeAll p answers (p .«device_count») (lentTo areas devices m) .core)
     (dues : List Segment) (due : Due p dues (jobIn taken)) (needs : List ℕ) (found-is : needs ≡ needsOf dues)
     (started : List Area) (left : List Device)
-    (second : coreIn started left ≡ secondHalf (needsLayout (p .areas) (p .«area_count») needs) (p .«device_count») (coreIn taken free)) where
+    (second : coreIn started left ≡ secondHalf (needsLayout (p .areas) ages (p .«area_count») needs) (p .«device_count») (coreIn taken free)) where
   found-needs : Needed p needs (coreIn taken free)
   found-needs = subst (λ l. Needed p l (coreIn taken free)) (sym found-is) (needs-found p dues (coreIn taken free) due)
 
   -- the core after both halves
-  pub whole-core : coreIn started left ≡ halvesOf p areas devices answers m .core
+  pub whole-core : coreIn started left ≡ halvesOf p areas devices ages answers m .core
   unfolding halvesOf roundHalves
   whole-core =
-      second ∙ second-same p few needs (p .«device_count») (coreIn taken free) found-needs .0
-      ∙ ap (secondHalf (layoutOf p) (p .«device_count»)) first
+      second ∙ second-same p few ages needs (p .«device_count») (coreIn taken free) found-needs .0
+      ∙ ap (secondHalf (layoutAt p (ageIn ages)) (p .«device_count»)) first
 
   whole-needs : Needed p needs (coreIn started left)
   whole-needs =
       subst (Needed p needs)
-      (sym (second ∙ second-same p few needs (p .«device_count») (coreIn taken free) found-needs .0))
-      (second-same p few needs (p .«device_count») (coreIn taken free) found-needs .1)
+      (sym (second ∙ second-same p few ages needs (p .«device_count») (coreIn taken free) found-needs .0))
+      (second-same p few ages needs (p .«device_count») (coreIn taken free) found-needs .1)
 
-  pub whole-areas : (r : List Area) → r ≡ areasAfter (needsLayout (p .areas) 0 needs) areas (coreIn started left) →
-      r ≡ areasAfter (layoutOf p) areas (halvesOf p areas devices answers m .core)
+  pub whole-areas : (r : List Area) → r ≡ areasAfter (needsLayout (p .areas) ages 0 needs) areas (coreIn started left) →
+      r ≡ areasAfter (layoutAt p (ageIn ages)) areas (halvesOf p areas devices ages answers m .core)
   whole-areas r e =
-      e ∙ close-same p few needs areas (coreIn started left) whole-needs ∙ ap (areasAfter (layoutOf p) areas) whole-core
+      e ∙ close-same p few ages needs areas (coreIn started left) whole-needs ∙ ap (areasAfter (layoutAt p (ageIn ages)) areas) whole-core
 
-  pub whole-devices : length left ≡ 4 → left ≡ devicesAfter (halvesOf p areas devices answers m .core)
+  pub whole-devices : length left ≡ 4 → left ≡ devicesAfter (halvesOf p areas devices ages answers m .core)
   whole-devices e = devices-whole left (coreIn started left) e refl ∙ ap devicesAfter whole-core
 
 -- and so is the memory
-pub whole-memory : (p : Plan) (areas : List Area) (devices : List Device) (answers : List DeviceAnswer) (m : Memory) →
-    takeAll p answers (p .«device_count») (lentTo areas devices m) .memory ≡ halvesOf p areas devices answers m .memory
+pub whole-memory : (p : Plan) (areas : List Area) (devices : List Device) (ages : List ℕ) (answers : List DeviceAnswer) (m : Memory) →
+    takeAll p answers (p .«device_count») (lentTo areas devices m) .memory ≡ halvesOf p areas devices ages answers m .memory
 unfolding halvesOf roundHalves
-whole-memory p areas devices answers m = refl
+whole-memory p areas devices ages answers m = refl

@@ -7,8 +7,9 @@ ghost use Rattle.rules.specs.Machine.{behind, waitOn};
 ghost use Rattle.rounds.specs.Close.{stick, counted, areasAfter};
 ghost use Rattle.rounds.specs.CloseLaws.{waitIs, rankLayout, closedArea};
 ghost use Rattle.rounds.specs.Picks.{needsLayout};
-use crate::picks::ranks_above;
 use jobs::is_pending;
+use jobs::ranks::age_of;
+use jobs::ranks::ranks_above;
 use machine::devices::state_on;
 use plan::records::AreaRecord;
 use state::Area;
@@ -77,22 +78,24 @@ fn priority_of(records: [AreaRecord; 8], area: usize) -> u16
 }
 
 // An area behind a request of another, or its own.
-fn wait_behind(records: [AreaRecord; 8], area: u8, runner: u8) -> Wait
-    ensures { λ r. ⌜ waitIs r ≡ behind (rankLayout records) area runner ⌝ }
+fn wait_behind(records: [AreaRecord; 8], ages: [u8; 8], area: u8, runner: u8) -> Wait
+    ensures { λ r. ⌜ waitIs r ≡ behind (rankLayout records ages) area runner ⌝ }
 {
     if runner == area {
         return Wait::Own;
     }
     let runner_priority = priority_of(records, runner as usize);
     let priority = priority_of(records, area as usize);
-    if ranks_above(runner_priority, runner, priority, area) {
+    let runner_age = age_of(ages, runner);
+    let age = age_of(ages, area);
+    if ranks_above(runner_priority, runner_age, priority, age) {
         return Wait::Above;
     }
     Wait::Below
 }
 
-fn wait_on(records: [AreaRecord; 8], area: u8, state: DeviceState) -> Wait
-    ensures { λ r. ⌜ waitIs r ≡ waitOn (rankLayout records) area state ⌝ }
+fn wait_on(records: [AreaRecord; 8], ages: [u8; 8], area: u8, state: DeviceState) -> Wait
+    ensures { λ r. ⌜ waitIs r ≡ waitOn (rankLayout records ages) area state ⌝ }
 {
     match state {
         DeviceState::Free => Wait::Nothing,
@@ -100,19 +103,20 @@ fn wait_on(records: [AreaRecord; 8], area: u8, state: DeviceState) -> Wait
         DeviceState::Runs {
             area: runner,
             polls: _,
-        } => wait_behind(records, area, runner),
+        } => wait_behind(records, ages, area, runner),
     }
 }
 
 // An area when the round closes; `state` is that of the device that its job needs.
 fn closed_area(
     records: [AreaRecord; 8],
+    ages: [u8; 8],
     number: u8,
     before: Area,
     after: Area,
     state: DeviceState,
 ) -> Area
-    ensures { λ r. ⌜ r ≡ closedArea records number before after state ⌝ }
+    ensures { λ r. ⌜ r ≡ closedArea records ages number before after state ⌝ }
 {
     let job = after.job;
     let waits = before.waits;
@@ -123,7 +127,7 @@ fn closed_area(
     if !is_pending(job) {
         return Area { job, waits };
     }
-    let wait = wait_on(records, number, state);
+    let wait = wait_on(records, ages, number, state);
     let waits = counted(wait, waits);
     Area { job, waits }
 }
@@ -131,18 +135,19 @@ fn closed_area(
 // All areas when the round closes: `before` are those before it, `after` those after both halves.
 pub fn close(
     records: [AreaRecord; 8],
+    ages: [u8; 8],
     needs: [u8; 8],
     before: [Area; 8],
     after: [Area; 8],
     devices: [Device; 4],
 ) -> [Area; 8]
-    ensures { λ r. ⌜ r ≡ areasAfter (needsLayout records 0 needs) before (coreIn after devices) ⌝ }
+    ensures { λ r. ⌜ r ≡ areasAfter (needsLayout records ages 0 needs) before (coreIn after devices) ⌝ }
 {
     let mut areas = [Area::fresh(); 8];
     let mut a = 0;
     while a < 8 {
         let state = state_on(devices, needs[a] as usize);
-        areas[a] = closed_area(records, a as u8, before[a], after[a], state);
+        areas[a] = closed_area(records, ages, a as u8, before[a], after[a], state);
         a += 1;
     }
     areas

@@ -4,9 +4,10 @@ ghost use mathlib.Core.Path.{_≡_};
 ghost use Rattle.machine.specs.Dues.{Due};
 ghost use Rattle.machine.specs.Sound.{jobIn, isSound};
 ghost use Rattle.rules.specs.Admission.{imageFits, storeReaches};
-ghost use Rattle.rules.specs.Layout.{layoutOf};
+ghost use Rattle.rules.specs.Layout.{layoutAt};
 ghost use Rattle.rounds.specs.Close.{areasAfter, devicesAfter, halvesOf};
 ghost use Rattle.requests.specs.Effects.{memoryOf};
+ghost use Rattle.state.specs.Ages.{ageIn};
 use crate::answers::Arrays;
 use crate::answers::first_half;
 use crate::close::close;
@@ -24,15 +25,16 @@ pub fn run_round(
     answers: [DeviceAnswer; 4],
     areas: [Area; 8],
     devices: [Device; 4],
+    ages: [u8; 8],
     dues: [Segment; 8],
     image: &mut [u8],
     store: &mut [u8],
 ) -> Arrays
     requires { ⌜ (isSound plan areas devices ≡ true) × (imageFits plan (now image) ≡ true) × (storeReaches plan (now store) ≡ true) × Due plan dues (jobIn areas) ⌝ }
-    ensures { λ r. ⌜ r .areas ≡ areasAfter (layoutOf plan) areas (halvesOf plan areas devices answers (memoryOf (now (image .entry)) (now (store .entry))) .core) ⌝ }
-    ensures { λ r. ⌜ r .devices ≡ devicesAfter (halvesOf plan areas devices answers (memoryOf (now (image .entry)) (now (store .entry))) .core) ⌝ }
-    ensures { λ _. ⌜ now (image .exit) ≡ halvesOf plan areas devices answers (memoryOf (now (image .entry)) (now (store .entry))) .memory .image ⌝ }
-    ensures { λ _. ⌜ now (store .exit) ≡ halvesOf plan areas devices answers (memoryOf (now (image .entry)) (now (store .entry))) .memory .store ⌝ }
+    ensures { λ r. ⌜ r .areas ≡ areasAfter (layoutAt plan (ageIn ages)) areas (halvesOf plan areas devices ages answers (memoryOf (now (image .entry)) (now (store .entry))) .core) ⌝ }
+    ensures { λ r. ⌜ r .devices ≡ devicesAfter (halvesOf plan areas devices ages answers (memoryOf (now (image .entry)) (now (store .entry))) .core) ⌝ }
+    ensures { λ _. ⌜ now (image .exit) ≡ halvesOf plan areas devices ages answers (memoryOf (now (image .entry)) (now (store .entry))) .memory .image ⌝ }
+    ensures { λ _. ⌜ now (store .exit) ≡ halvesOf plan areas devices ages answers (memoryOf (now (image .entry)) (now (store .entry))) .memory .store ⌝ }
 {
     let first = first_half(plan, answers, areas, devices, dues, image, store);
     let taken = first.areas;
@@ -42,6 +44,7 @@ pub fn run_round(
     let records = plan.areas;
     let second = second_half(
         records,
+        ages,
         plan.area_count,
         needs,
         plan.device_count,
@@ -50,6 +53,6 @@ pub fn run_round(
     );
     let started = second.areas;
     let devices = second.devices;
-    let areas = close(records, needs, areas, started, devices);
+    let areas = close(records, ages, needs, areas, started, devices);
     Arrays { areas, devices }
 }

@@ -6,11 +6,12 @@ ghost use lib.Dec.{eqb};
 ghost use Rattle.arith.specs.Cases.{pick};
 ghost use Rattle.machine.specs.Sound.{coreIn};
 ghost use Rattle.rules.specs.Machine.{isPending, secondHalf};
-ghost use Rattle.rounds.specs.Picks.{needsOf, rankAbove, betterOf, bestTo, readyIn, isFree, chosenIn, startOf, startWith, needsLayout};
+ghost use Rattle.rounds.specs.Picks.{needsOf, betterOf, bestTo, readyIn, isFree, chosenIn, startOf, startWith, needsLayout};
 ghost use Rattle.rounds.specs.declared.picks.Best.the-variants.{Nobody};
 use crate::answers::Arrays;
 use jobs::ended;
 use jobs::is_pending;
+use jobs::ranks::ranks_above;
 use memory::JobResult;
 use plan::records::AreaRecord;
 use segment::Segment;
@@ -37,46 +38,42 @@ pub fn needed_devices(dues: [Segment; 8]) -> [u8; 8]
 // The best of the jobs looked at so far.
 pub enum Best {
     Nobody,
-    Area { area: u8, priority: u16 },
+    Area { area: u8, priority: u16, age: u8 },
 }
 
-// "Rank: the larger priority is above; among equal ones the lower area number."
-pub fn ranks_above(priority: u16, area: u8, other_priority: u16, other: u8) -> bool
-    ensures { λ r. ⌜ r ≡ rankAbove priority area «other_priority» other ⌝ }
-{
-    if other_priority < priority {
-        return true;
-    }
-    if other_priority != priority {
-        return false;
-    }
-    area < other
-}
-
-fn better(area: u8, priority: u16, best: Best) -> Best
-    ensures { λ r. ⌜ r ≡ betterOf area priority best ⌝ }
+fn better(area: u8, priority: u16, age: u8, best: Best) -> Best
+    ensures { λ r. ⌜ r ≡ betterOf area priority age best ⌝ }
 {
     match best {
-        Best::Nobody => Best::Area { area, priority },
+        Best::Nobody => Best::Area {
+            area,
+            priority,
+            age,
+        },
         Best::Area {
-            area: other,
+            area: _,
             priority: other_priority,
+            age: other_age,
         } => {
-            if ranks_above(priority, area, other_priority, other) {
-                return Best::Area { area, priority };
+            if ranks_above(priority, age, other_priority, other_age) {
+                return Best::Area {
+                    area,
+                    priority,
+                    age,
+                };
             }
             best
         }
     }
 }
 
-fn better_if(ready: bool, area: u8, priority: u16, best: Best) -> Best
-    ensures { λ r. ⌜ r ≡ pick ready (betterOf area priority best) best ⌝ }
+fn better_if(ready: bool, area: u8, priority: u16, age: u8, best: Best) -> Best
+    ensures { λ r. ⌜ r ≡ pick ready (betterOf area priority age best) best ⌝ }
 {
     if !ready {
         return best;
     }
-    better(area, priority, best)
+    better(area, priority, age, best)
 }
 
 fn is_ready(job: Job, needed: u8, device: usize) -> bool
@@ -91,13 +88,14 @@ fn is_ready(job: Job, needed: u8, device: usize) -> bool
 // The highest ranked of the first areas that are ready for the device.
 fn best_area(
     records: [AreaRecord; 8],
+    ages: [u8; 8],
     count: usize,
     needs: [u8; 8],
     areas: [Area; 8],
     device: usize,
 ) -> Best
     requires { ⌜ count ≤ 8 ⌝ }
-    ensures { λ r. ⌜ r ≡ bestTo records (readyIn needs areas device) count ⌝ }
+    ensures { λ r. ⌜ r ≡ bestTo records ages (readyIn needs areas device) count ⌝ }
 {
     let mut best = Best::Nobody;
     let mut a = 0;
@@ -106,7 +104,7 @@ fn best_area(
         let job = entry.job;
         let record = records[a];
         let ready = is_ready(job, needs[a], device);
-        best = better_if(ready, a as u8, record.priority, best);
+        best = better_if(ready, a as u8, record.priority, ages[a], best);
         a += 1;
     }
     best
@@ -126,18 +124,19 @@ fn is_free(state: DeviceState) -> bool
 fn pick_area(
     state: DeviceState,
     records: [AreaRecord; 8],
+    ages: [u8; 8],
     count: usize,
     needs: [u8; 8],
     areas: [Area; 8],
     device: usize,
 ) -> Best
     requires { ⌜ count ≤ 8 ⌝ }
-    ensures { λ r. ⌜ r ≡ pick (isFree state) (bestTo records (readyIn needs areas device) count) Nobody ⌝ }
+    ensures { λ r. ⌜ r ≡ pick (isFree state) (bestTo records ages (readyIn needs areas device) count) Nobody ⌝ }
 {
     if !is_free(state) {
         return Best::Nobody;
     }
-    best_area(records, count, needs, areas, device)
+    best_area(records, ages, count, needs, areas, device)
 }
 
 // The area chosen; 0 where none is that a manager has.
@@ -147,7 +146,11 @@ fn chosen(best: Best) -> usize
 {
     match best {
         Best::Nobody => 0,
-        Best::Area { area, priority: _ } => {
+        Best::Area {
+            area,
+            priority: _,
+            age: _,
+        } => {
             if 8 <= area {
                 return 0;
             }
@@ -193,13 +196,18 @@ fn start_choice(best: Best, entry: Area, device: Device) -> Start
             area: entry,
             device,
         },
-        Best::Area { area, priority: _ } => start_job(area, entry),
+        Best::Area {
+            area,
+            priority: _,
+            age: _,
+        } => start_job(area, entry),
     }
 }
 
 // The first devices pick, in their order. Left open are the waits, which the close takes from before the round.
 pub fn second_half(
     records: [AreaRecord; 8],
+    ages: [u8; 8],
     count: usize,
     needs: [u8; 8],
     device_count: usize,
@@ -207,13 +215,13 @@ pub fn second_half(
     mut devices: [Device; 4],
 ) -> Arrays
     requires { ⌜ (count ≤ 8) × («device_count» ≤ 4) ⌝ }
-    ensures { λ r. ⌜ coreIn (r .areas) (r .devices) ≡ secondHalf (needsLayout records count needs) «device_count» (coreIn areas devices) ⌝ }
+    ensures { λ r. ⌜ coreIn (r .areas) (r .devices) ≡ secondHalf (needsLayout records ages count needs) «device_count» (coreIn areas devices) ⌝ }
 {
     let mut d = 0;
     while d < device_count {
         let device = devices[d];
         let state = device.state;
-        let best = pick_area(state, records, count, needs, areas, d);
+        let best = pick_area(state, records, ages, count, needs, areas, d);
         // without a choice any area will do: it stays as it is
         let area = chosen(best);
         let start = start_choice(best, areas[area], device);

@@ -5,7 +5,7 @@ use mathlib.Core.List.{List, [], _∷_, _++_}
 use lib.ListN.{replicate}
 use Rattle.memory.specs.declared.DeviceAnswer.the-variants.{Pending, Done, Failed}
 use Rattle.memory.specs.declared.JobType.{JobType}
-use Rattle.memory.specs.declared.JobType.the-variants.{Write, Compare, Erase, BlankCheck, Lock}
+use Rattle.memory.specs.declared.JobType.the-variants.{Write, Read, Compare, Erase, BlankCheck, Lock}
 use Rattle.plan.specs.Examples.{planT, device, area, subArea, sizes}
 use Rattle.rules.specs.Session.{Entry, number, devices, info, Line, call, answers, nothing, locked, request}
 use Rattle.arith.specs.Bounded as Bounded
@@ -19,6 +19,7 @@ use Rattle.plan.specs.Questions as Questions
 use Rattle.segment.specs.Mapping as Mapping
 use Rattle.segment.specs.Segments as Segments
 use Rattle.rules.specs.Layout as Layout
+use Rattle.rules.specs.Ranks as Ranks
 use Rattle.rules.specs.Machine as Machine
 use Rattle.rules.specs.Admission as Admission
 use Rattle.rules.specs.Round as Round
@@ -30,6 +31,10 @@ abbrev pub planU : List ℕ
 planU =
     device 0 64 2 ++ device 64 32 3 ++ area 5 16 0 16 ++ area 1 0 16 16 ++ subArea 0 1 64 (sizes 16 16 4 4 1 8) 1 1 0
     ++ subArea 0 0 16 (sizes 16 32 4 8 1 8) 2 1 0 ++ subArea 1 0 48 (sizes 16 16 4 4 1 8) 1 0 0
+
+-- plan T with one priority for both areas
+abbrev pub planV : List ℕ
+planV = device 0 64 2 ++ area 3 0 0 16 ++ area 3 256 16 16 ++ subArea 0 0 0 (sizes 16 32 4 8 1 8) 2 1 0 ++ subArea 1 0 32 (sizes 16 16 4 4 1 4) 2 0 0
 
 abbrev pub job : JobType → ℕ → ℕ → ℕ → Line
 job k a address n = call (History.submit a (record { kind = k; address = record { 0 = address }; length = n }))
@@ -80,5 +85,17 @@ pub closed-runs :
     -- Logical address 32 is at physical 16, which is no multiple of the sector burst 32; at physical 32 only one sector is left.
     × (prints planU 96 (job Erase 0 32 32 ∷ answers (Pending ∷ Pending ∷ []) ∷ answers (Done ∷ Pending ∷ []) ∷ answers (Done ∷ Pending ∷ []) ∷ ask 0 ∷ [])
     ≡ number 0 ∷ devices (request 0 4 16 16 ∷ nothing ∷ []) ∷ devices (request 0 4 32 16 ∷ nothing ∷ []) ∷ devices (nothing ∷ nothing ∷ []) ∷ info 0 32 2 0 0 0 ∷ [])
-unfolding Bounded.every Bounded.some Bounded.sum FirstNo.firstNo Multiples.multiple Tables.table Parts.part Parts.put Parts.upd Number.numberAt Records.deviceAt Records.areaAt Records.granularityAt Records.subAreaAt Records.isRecord Records.recordsUpTo Records.recordsFrom Records.deviceCount Records.areasStart Records.areaCount Records.subAreasStart Records.subAreaCount Records.recordsEnd Records.recordLayout Records.planOf Records.emptyPlan Questions.apart Questions.wholeRecords Questions.countsFit Questions.deviceDue Questions.deviceJoins Questions.devicesJoin Questions.windowsApart Questions.windowsFit Questions.granularityFits Questions.sizesFit Questions.insideDevice Questions.isPlaced Questions.allPlaced Questions.sizeIn Questions.spaceFits Questions.spacesFit Questions.subAreasApart Questions.recordQuestions Questions.planQuestions Questions.loadNumber Questions.loadedPlan Mapping.find Mapping.mapped Segments.burstOrUnit Segments.segmentAt Segments.cut Segments.segmentsFrom Segments.spansAfter Segments.spans Segments.ownSum Segments.belowSum Segments.ownBound Segments.belowBound Layout.ranksAbove Layout.layoutOf Machine.jobFailed Machine.jobFinished Machine.jobDiffers Machine.takeAnswer Machine.firstHalf Machine.ready Machine.best Machine.start Machine.secondHalf Machine.behind Machine.cancel Machine.begin Machine.release Admission.isInside Admission.isAligned Admission.fitsWindow Admission.onOneDevice Admission.rangeDevice Admission.jobQuestions Admission.releaseQuestions Admission.cancelQuestions Admission.infoQuestions Admission.memoryInfoQuestions Admission.imageFits Admission.storeReaches Admission.jobNumber Admission.releaseNumber Admission.cancelNumber Admission.infoNumber Admission.memoryInfoNumber Admission.roundNumber Admission.admits Round.takeIn Round.takeAll Round.roundHalves History.start History.roundOf History.submitted History.step History.run Session.shownTo Session.entryOf Session.playLine Session.play
-closed-runs = (refl, refl, refl, refl, refl, refl, refl, refl, refl, refl)
+    -- The earlier accepted of two areas with one priority is above, whatever its number.
+    × (prints planV 64 (job Write 1 256 4 ∷ job Write 0 4 4 ∷ answers (Pending ∷ []) ∷ answers (Done ∷ []) ∷ answers (Done ∷ []) ∷ ask 0 ∷ ask 1 ∷ [])
+    ≡ number 0 ∷ number 0 ∷ devices (request 1 1 32 4 ∷ []) ∷ devices (request 0 1 4 4 ∷ []) ∷ devices (nothing ∷ []) ∷ info 0 4 1 1 0 0 ∷ info 0 4 1 0 0 0 ∷ [])
+    -- A retry keeps its place.
+    × (prints planV 64 (job Write 0 4 4 ∷ answers (Pending ∷ []) ∷ job Write 1 256 4 ∷ answers (Failed 0 ∷ []) ∷ answers (Done ∷ []) ∷ answers (Done ∷ []) ∷ ask 0 ∷ ask 1 ∷ [])
+    ≡ number 0 ∷ devices (request 0 1 4 4 ∷ []) ∷ number 0 ∷ devices (request 0 1 4 4 ∷ []) ∷ devices (request 1 1 32 4 ∷ []) ∷ devices (nothing ∷ []) ∷ info 0 4 2 0 0 0 ∷ info 0 4 1 1 0 0 ∷ [])
+    -- An area whose job is over comes last with its next one.
+    × (prints planV 64 (job Write 0 4 12 ∷ job Write 1 256 8 ∷ answers (Pending ∷ []) ∷ answers (Done ∷ []) ∷ answers (Done ∷ []) ∷ job Write 0 0 4 ∷ answers (Done ∷ []) ∷ answers (Done ∷ []) ∷ answers (Done ∷ []) ∷ ask 0 ∷ ask 1 ∷ [])
+    ≡ number 0 ∷ number 0 ∷ devices (request 0 1 4 4 ∷ []) ∷ devices (request 0 1 8 8 ∷ []) ∷ devices (request 1 1 32 4 ∷ []) ∷ number 0 ∷ devices (request 1 1 36 4 ∷ []) ∷ devices (request 0 1 0 4 ∷ []) ∷ devices (nothing ∷ []) ∷ info 0 4 1 1 0 0 ∷ info 0 8 2 2 0 0 ∷ [])
+    -- A lock request has its place too.
+    × (prints planV 64 (job Lock 1 256 4 ∷ job Write 0 4 4 ∷ answers (Pending ∷ []) ∷ ask 0 ∷ release 1 256 4 ∷ answers (Pending ∷ []) ∷ answers (Done ∷ []) ∷ ask 0 ∷ ask 1 ∷ [])
+    ≡ number 0 ∷ number 0 ∷ devices (locked ∷ []) ∷ info 0 0 0 0 0 1 ∷ number 0 ∷ devices (request 0 1 4 4 ∷ []) ∷ devices (nothing ∷ []) ∷ info 0 4 1 0 0 1 ∷ info 0 0 0 0 0 0 ∷ [])
+unfolding Bounded.every Bounded.some Bounded.sum FirstNo.firstNo Multiples.multiple Tables.table Parts.part Parts.put Parts.upd Number.numberAt Records.deviceAt Records.areaAt Records.granularityAt Records.subAreaAt Records.isRecord Records.recordsUpTo Records.recordsFrom Records.deviceCount Records.areasStart Records.areaCount Records.subAreasStart Records.subAreaCount Records.recordsEnd Records.recordLayout Records.planOf Records.emptyPlan Questions.apart Questions.wholeRecords Questions.countsFit Questions.deviceDue Questions.deviceJoins Questions.devicesJoin Questions.windowsApart Questions.windowsFit Questions.granularityFits Questions.sizesFit Questions.insideDevice Questions.isPlaced Questions.allPlaced Questions.sizeIn Questions.spaceFits Questions.spacesFit Questions.subAreasApart Questions.recordQuestions Questions.planQuestions Questions.loadNumber Questions.loadedPlan Mapping.find Mapping.mapped Segments.burstOrUnit Segments.segmentAt Segments.cut Segments.segmentsFrom Segments.spansAfter Segments.spans Segments.ownSum Segments.belowSum Segments.ownBound Segments.belowBound Ranks.agesAfter Ranks.rankAbove Layout.layoutOf Machine.jobFailed Machine.jobFinished Machine.jobDiffers Machine.takeAnswer Machine.firstHalf Machine.ready Machine.best Machine.start Machine.secondHalf Machine.behind Machine.cancel Machine.begin Machine.release Admission.isInside Admission.isAligned Admission.fitsWindow Admission.onOneDevice Admission.rangeDevice Admission.jobQuestions Admission.releaseQuestions Admission.cancelQuestions Admission.infoQuestions Admission.memoryInfoQuestions Admission.imageFits Admission.storeReaches Admission.jobNumber Admission.releaseNumber Admission.cancelNumber Admission.infoNumber Admission.memoryInfoNumber Admission.roundNumber Admission.admits Round.takeIn Round.takeAll Round.roundHalves History.start History.roundOf History.submitted History.step History.run Session.shownTo Session.entryOf Session.playLine Session.play
+closed-runs = (refl, refl, refl, refl, refl, refl, refl, refl, refl, refl, refl, refl, refl, refl)

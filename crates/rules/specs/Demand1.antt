@@ -122,7 +122,6 @@ module _ (p : Plan) (w : WellFormed p) (c : Core) (reach : Reachable (layoutOf p
   module _ (m : Memory) (accepted : roundNumber p (m .image) (m .store) ≡ 0) (done : ℕ → List Segment) where
     -- the round makes the changes of all devices' requests
     round-after : After (requestAt p c) (answerOf answers) m (p .«device_count») (roundMemory p c answers m done)
-    unfolding roundHalves
     round-after = taken p w c reach cuts answers m accepted done (p .«device_count») .after
 
     -- an image byte that is acted on becomes what the rules say
@@ -165,6 +164,7 @@ module _ (p : Plan) (w : WellFormed p) (c : Core) (reach : Reachable (layoutOf p
 
 -- demand 1
 pub demand1 : (p : Plan) → WellFormed p → (h : History) → Reachable (layoutOf p) (admits p) (h .core) → AtCuts p (h .core) → Demand1 p h
+unfolding roundHalves
 demand1 p w h reach cuts =
     record {
       other-calls = λ k m e. memory-kept p k h m (inr e);

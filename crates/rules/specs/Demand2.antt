@@ -15,6 +15,7 @@ use Rattle.plan.specs.WellFormed.{WellFormed}
 use Rattle.plan.specs.declared.records.Plan.{Plan}
 use Rattle.segment.specs.Bytes.{joined, mappedBytes}
 use Rattle.segment.specs.BytesLaws.{mapped-once}
+use Rattle.segment.specs.SegmentLaws.{segment-device}
 use Rattle.state.specs.declared.DeviceState.the-variants.{Runs}
 use Rattle.rules.specs.Admission.{jobNumber, cancelNumber, roundNumber, admits}
 use Rattle.rules.specs.DoneKept.{Fits}
@@ -22,11 +23,11 @@ use Rattle.rules.specs.Ends.{ends-few}
 use Rattle.rules.specs.EndsSo.{ends-so}
 use Rattle.rules.specs.History.{submit, cancels, round, noTally, History, submitted, step}
 use Rattle.rules.specs.Layout.{layoutOf}
-use Rattle.rules.specs.Machine.{isPending, isCancelling, isOwn, waitOf, begin, cancel}
+use Rattle.rules.specs.Machine.{Core, isPending, isCancelling, isOwn, waitOf, begin, cancel}
 use Rattle.rules.specs.Memory.{Memory}
-use Rattle.rules.specs.PlanLaws.{plan-laws}
+use Rattle.rules.specs.PlanLaws.{admitted}
 use Rattle.rules.specs.Reach.{actedBytes, broughtBytes, imageBytes, windowBytes, actedByte, requestOf}
-use Rattle.rules.specs.Reachable.{Reachable, running-known}
+use Rattle.rules.specs.Reachable.{Reachable}
 use Rattle.rules.specs.Round.{answerOf, windowPlace}
 use Rattle.rules.specs.Session.{memoryOf}
 use Rattle.rules.specs.Statements.{RoundChanges, Demand1, Demand2}
@@ -78,12 +79,20 @@ module _ (p : Plan) (h : History) (a : ℕ) where
   cancel-accepted e =
       rw (eq-eqb (cancelNumber p (h .core) a) 0 e) (λ o. rw (o, upd-same) (refl, refl), λ o. rw (o, upd-same) (refl, refl))
 
+-- a device where a request runs is known
+running-known : (p : Plan) → WellFormed p → (c : Core) → Reachable (layoutOf p) (admits p) c → (d a polls : ℕ) → c .devices d ≡ Runs a polls → d < p .«device_count»
+unfolding layoutOf
+running-known p w c r d a polls e =
+    let run = rw e at (r .devices d) in
+    let fits = r .jobs a (run .pending) in
+    subst (λ n. n < p .«device_count») (run .needed)
+    (segment-device p w a (c .jobs a .task) (admitted p a (c .jobs a .task) (fits .known) (fits .admitted)) (c .jobs a .processed) (fits .more))
+
 -- demand 2
 pub demand2 : (p : Plan) → WellFormed p → (h : History) → Reachable (layoutOf p) (admits p) (h .core) → Fits p h → Demand1 p h → (a : ℕ) →
     Demand2 p h a
-unfolding layoutOf
 demand2 p w h reach fits first a =
-    let known : (d polls : ℕ) → h .core .devices d ≡ Runs a polls → d < p .«device_count» = λ d polls. running-known (plan-laws p w) reach in
+    let known : (d polls : ℕ) → h .core .devices d ≡ Runs a polls → d < p .«device_count» = λ d polls. running-known p w (h .core) reach d a polls in
     record {
       joined-so-far = fits a .joined-is;
       joined-whole = λ e r k.

@@ -1,11 +1,13 @@
--- The three demands, for every accepted load and every list of calls.
+-- The three demands and the order of acceptance, for every accepted load and every list of calls.
 use Rattle.plan.specs.Accepted.{accepted}
 use Rattle.plan.specs.Records.{planOf}
 use Rattle.plan.specs.WellFormed.{WellFormed}
+use Rattle.rules.specs.ByAcceptance.{by-acceptance}
 use Rattle.rules.specs.Demand1.{demand1}
 use Rattle.rules.specs.Demand2.{demand2}
 use Rattle.rules.specs.Demand3.{demand3}
 use Rattle.rules.specs.DoneKept.{done-fits}
+use Rattle.rules.specs.FirstCome.{first-come}
 use Rattle.rules.specs.History.{start, run}
 use Rattle.rules.specs.PlanLaws.{plan-laws}
 use Rattle.rules.specs.Runs.{history-fits}
@@ -20,4 +22,10 @@ demands l e cs =
     let reach = fits cs .reachable in
     let done = done-fits p w (λ ds. fits ds .reachable) cs in
     let first = demand1 p w (run p cs start) reach (λ a _. done a .cut) in
-    record { demand1 = first; demand2 = demand2 p w (run p cs start) reach done first; demand3 = demand3 p (run p cs start) (fits cs) }
+    record {
+      demand1 = first;
+      demand2 = demand2 p w (run p cs start) reach done first;
+      demand3 = demand3 p (run p cs start) (fits cs);
+      first-come = first-come p (run p cs start) (fits cs .apart);
+      by-acceptance = by-acceptance p (plan-laws p w) cs;
+    }

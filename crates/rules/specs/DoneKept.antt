@@ -21,7 +21,7 @@ use Rattle.state.specs.declared.Job.{Job}
 use Rattle.rules.specs.Admitted.{job-admitted, cancel-admitted}
 use Rattle.rules.specs.Admission.{admits, jobNumber, releaseNumber, cancelNumber, roundNumber}
 use Rattle.rules.specs.History.{Call, submit, releases, cancels, asks, round, History, lent, start, roundOf, submitted, step, run}
-use Rattle.rules.specs.Layout.{layoutOf}
+use Rattle.rules.specs.Layout.{layoutOf, layoutAt}
 use Rattle.rules.specs.Machine.{Core, isPending, begun, secondHalf, isOwn, waitOf, cancelIf, cancel, begin, release}
 use Rattle.rules.specs.PlanLaws.{admitted}
 use Rattle.rules.specs.Reachable.{Reachable}
@@ -63,12 +63,12 @@ module _ (p : Plan) (w : WellFormed p) where
       (ih a)
 
   -- and so does the second
-  second-half-fits : (n : ℕ) (c : Core) (done : ℕ → List Segment) → AllFit p (c .jobs) done → AllFit p (secondHalf (layoutOf p) n c .jobs) done
+  second-half-fits : (ages : ℕ → ℕ) (n : ℕ) (c : Core) (done : ℕ → List Segment) → AllFit p (c .jobs) done → AllFit p (secondHalf (layoutAt p ages) n c .jobs) done
   unfolding secondHalf
-  second-half-fits zero c done f = f
-  second-half-fits (suc n) c done f =
-      let ih = second-half-fits n c done f in
-      start-case (λ e. AllFit p (e .jobs) done) (layoutOf p) n (secondHalf (layoutOf p) n c) ih
+  second-half-fits ages zero c done f = f
+  second-half-fits ages (suc n) c done f =
+      let ih = second-half-fits ages n c done f in
+      start-case (λ e. AllFit p (e .jobs) done) (layoutAt p ages) n (secondHalf (layoutAt p ages) n c) ih
       (λ b _ _ k. job-fits p b ih (ended-fits p b 0 (λ _ e. absurd (true≢false (sym k ∙ e))) (ih b)))
       (λ b _. ih)
 
@@ -103,7 +103,7 @@ module _ (p : Plan) (w : WellFormed p) where
   done-kept (asks q) h r f = f
   done-kept (round answers m) h r f =
       accept-case (Fits p) (roundNumber p (m .image) (m .store))
-      (λ _. second-half-fits (p .«device_count») _ _ (first-half-fits answers (lent m h) r f (p .«device_count»)))
+      (λ _. second-half-fits (h .ages) (p .«device_count») _ _ (first-half-fits answers (lent m h) r f (p .«device_count»)))
       f
 
   -- at the start

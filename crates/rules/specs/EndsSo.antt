@@ -17,7 +17,7 @@ use Rattle.state.specs.declared.DeviceState.the-variants.{Free, LockedFor}
 use Rattle.state.specs.declared.Job.{Job}
 use Rattle.rules.specs.Admission.{admits, jobNumber, releaseNumber, cancelNumber, roundNumber}
 use Rattle.rules.specs.History.{Call, submit, releases, cancels, asks, round, History, lent, submitted, roundOf, step}
-use Rattle.rules.specs.Layout.{layoutOf}
+use Rattle.rules.specs.Layout.{layoutOf, layoutAt}
 use Rattle.rules.specs.Machine.{Core, isPending, withBoth, begun, ended, cancelled, ready, secondHalf, isOwn, waitOf, cancelIf, cancel, begin, release}
 use Rattle.rules.specs.Memory.{Memory}
 use Rattle.rules.specs.Reachable.{Reachable}
@@ -48,7 +48,7 @@ free-changes devices n y e {a} d f =
     upd-case (λ x. x ≡ LockedFor a) devices n d y (λ g. let z : _≡_ {A = ℕ} 0 1 = cc in absurd (omega arith)) (λ _. f)
 
 -- area a's lock request is given
-lock-so : (p : Plan) (h : History) (a n : ℕ) (e : Core) {answers : List DeviceAnswer} {m : Memory} → ready (layoutOf p) e n a ≡ true →
+lock-so : (p : Plan) (h : History) (a n : ℕ) (e : Core) {answers : List DeviceAnswer} {m : Memory} → ready (layoutAt p (h .ages)) e n a ≡ true →
     isLock (e .jobs a .task .kind) ≡ true → EndsSo p h a (round answers m) (withBoth a (ended 0 (e .jobs a)) n (LockedFor a) e)
 unfolding ready
 lock-so p h a n e r k _ =
@@ -76,15 +76,15 @@ module _ (p : Plan) (answers : List DeviceAnswer) (m : Memory) (h : History) (r 
 
   -- the second half ends a job by a lock
   second-half-so : (c : Core) → ((e : Core) → isPending (c .jobs a) ≡ false → Ends p h e a (round answers m) (c .jobs a .result .0)) → (n : ℕ) →
-      EndsSo p h a (round answers m) (secondHalf (layoutOf p) n c)
+      EndsSo p h a (round answers m) (secondHalf (layoutAt p (h .ages)) n c)
   unfolding secondHalf
   second-half-so c f zero = f c
   second-half-so c f (suc n) =
-      let e = secondHalf (layoutOf p) n c in
+      let e = secondHalf (layoutAt p (h .ages)) n c in
       let ih = second-half-so c f n in
-      start-case (EndsSo p h a (round answers m)) (layoutOf p) n e ih
+      start-case (EndsSo p h a (round answers m)) (layoutAt p (h .ages)) n e ih
       (λ b free r k.
-      same-or (λ b. ready (layoutOf p) e n b ≡ true → isLock (e .jobs b .task .kind) ≡ true →
+      same-or (λ b. ready (layoutAt p (h .ages)) e n b ≡ true → isLock (e .jobs b .task .kind) ≡ true →
       EndsSo p h a (round answers m) (withBoth b (ended 0 (e .jobs b)) n (LockedFor b) e)) a b
       (lock-so p h a n e)
       (λ g r k l.

@@ -13,7 +13,8 @@ use Rattle.plan.specs.declared.records.Plan.{Plan}
 use Rattle.segment.specs.declared.Segment.{Segment}
 use Rattle.state.specs.Fresh.{noJob}
 use Rattle.state.specs.declared.DeviceState.the-variants.{Free}
-use Rattle.rules.specs.Layout.{layoutOf}
+use Rattle.rules.specs.Ranks.{agesAfter}
+use Rattle.rules.specs.Layout.{layoutOf, layoutAt}
 use Rattle.rules.specs.Machine.{Core, Wait, own, above, below, locked, none, isPending, waitOf, begin, cancel, release}
 use Rattle.rules.specs.Memory.{Memory}
 use Rattle.rules.specs.Admission.{rangeDevice, jobNumber, releaseNumber, cancelNumber, roundNumber}
@@ -50,12 +51,21 @@ noTally = record { rounds = 0; own = 0; above = 0; below = 0; locked = 0; byRoun
 -- beside what the paper lists, the requests of each area's latest job that were done (demand 2)
 pub record History : Type 0 where
   pub core : Core
+  -- document 02, 01: "the order in which pending jobs were accepted", as the areas' ages (Ranks)
+  pub ages : ℕ → ℕ
   pub tallies : ℕ → Tally
   pub done : ℕ → List Segment
 
--- "At the start nothing runs, is locked or pending, and the numbers are 0."
+-- "At the start nothing runs, is locked or pending, and the numbers are 0." No two areas have one age; which is the older does not
+-- matter, as none is pending.
 unfoldable pub start : History
-start = record { core = record { jobs = λ a. noJob; devices = λ d. Free }; tallies = λ a. noTally; done = λ a. [] }
+start =
+    record {
+      core = record { jobs = λ a. noJob; devices = λ d. Free };
+      ages = λ a. a;
+      tallies = λ a. noTally;
+      done = λ a. [];
+    }
 
 -- one round more, with its wait
 abbrev pub count : Wait → Tally → Tally
@@ -78,20 +88,26 @@ lent m h = record { core = h .core; memory = m; done = h .done }
 
 unfoldable pub roundOf : Plan → List DeviceAnswer → Memory → History → History
 roundOf p answers m h =
-    let after = roundHalves p answers (lent m h) in
+    let after = roundHalves p (h .ages) answers (lent m h) in
     record {
       core = after .core;
-      tallies = λ a. close (isPending (h .core .jobs a)) (isPending (after .core .jobs a)) (waitOf (layoutOf p) (after .core) a) (h .tallies a);
+      ages = h .ages;
+      tallies = λ a. close (isPending (h .core .jobs a)) (isPending (after .core .jobs a)) (waitOf (layoutAt p (h .ages)) (after .core) a) (h .tallies a);
       done = after .done;
     }
 
 -- "a job or lock sets its area's five numbers to 0"
 unfoldable pub submitted : Plan → ℕ → Task → History → History
 submitted p a t h =
-    record { core = begin (layoutOf p) a t (h .core); tallies = upd (h .tallies) a noTally; done = upd (h .done) a [] }
+    record {
+      core = begin (layoutOf p) a t (h .core);
+      ages = agesAfter a (h .ages);
+      tallies = upd (h .tallies) a noTally;
+      done = upd (h .done) a [];
+    }
 
 abbrev pub withCore : Core → History → History
-withCore c h = record { core = c; tallies = h .tallies; done = h .done }
+withCore c h = record { core = c; ages = h .ages; tallies = h .tallies; done = h .done }
 
 -- "A refused call or a query changes nothing." "9 refuses nothing here."
 unfoldable pub step : Plan → Call → History → History

@@ -1,3 +1,4 @@
+pub mod Ranks
 pub mod Layout
 pub mod Machine
 pub mod Admission
@@ -27,6 +28,7 @@ pub mod RoundCore
 pub mod Close
 pub mod Admitted
 pub mod Calls
+pub mod Ranked
 pub mod Runs
 pub mod Demand3
 pub mod ListLaws
@@ -41,5 +43,7 @@ pub mod DoneKept
 pub mod Ends
 pub mod EndsSo
 pub mod Demand2
+pub mod FirstCome
+pub mod ByAcceptance
 pub mod Demands
 pub mod Reached

@@ -21,8 +21,8 @@ use Rattle.segment.specs.SpanLaws.{one-device}
 use Rattle.segment.specs.declared.Found.the-variants.{At}
 use Rattle.rules.specs.Admission.{isInside, isAligned, lockTask, onOneDevice, rangeDevice, ifAsked, admits}
 use Rattle.rules.specs.Laws.{Laws}
-use Rattle.rules.specs.Layout.{priorityOf, layoutOf}
-use Rattle.rules.specs.RankLaws.{ranks-chain, ranks-differ}
+use Rattle.rules.specs.Layout.{priorityOf, layoutOf, layoutAt}
+use Rattle.rules.specs.RankLaws.{AgesApart, ranks-chain, ranks-differ}
 
 -- question 13 is asked of the jobs; a lock request is on its unit anywhere
 on-unit : (k : JobType) (s : SubAreaRecord) (y : ℕ) (answer : Bool) → ifAsked (not (isLock k)) answer ≡ true →
@@ -57,14 +57,14 @@ admitted p a t h e =
     let facts = simp and-plain at e in
     range-admitted p a t h (facts .0) (facts .1 .0)
 
--- an accepted plan has the laws that the machine's theorems need
-pub plan-laws : (p : Plan) → WellFormed p → Laws (layoutOf p) (admits p)
+-- an accepted plan has the laws that the machine's theorems need, in whatever order its jobs were accepted
+pub plan-laws : (p : Plan) → WellFormed p → (ages : ℕ → ℕ) → AgesApart ages → Laws (layoutAt p ages) (admits p)
 unfolding layoutOf admits isInside
-plan-laws p w =
+plan-laws p w ages apart =
     record {
       limit-some = w .poll-limit-some;
-      ranks-chain = ranks-chain (priorityOf p);
-      ranks-differ = ranks-differ (priorityOf p);
+      ranks-chain = ranks-chain (priorityOf p) ages;
+      ranks-differ = ranks-differ (priorityOf p) ages apart;
       length-some = λ a t e. (simp plain at e) .0 .0;
       segment-some = λ a t x h e. segment-some p w a t (admitted p a t h e) x;
       segment-device = λ a t x h e. segment-device p w a t (admitted p a t h e) x;

@@ -17,7 +17,7 @@ use Rattle.rules.specs.History.{Query, status, result, processed, jobInf
 use Rattle.rules.specs.Layout.{layoutOf}
 use Rattle.rules.specs.Machine.{Core, due}
 use Rattle.rules.specs.Memory.{Memory}
-use Rattle.rules.specs.Round.{answerOf, windowPlace, roundHalves}
+use Rattle.rules.specs.Round.{answerOf, windowPlace, takeAll}
 
 -- How many of n image bytes a job type acts on. "Done compare or blank check changes no memory"
 abbrev pub imageBytes : JobType → ℕ → ℕ
@@ -67,9 +67,9 @@ actedByte NoJob b = 0
 abbrev pub requestOf : Plan → Core → ℕ → Segment
 requestOf p c a = due (layoutOf p) a (c .jobs a)
 
--- image and store after a round that is accepted
+-- image and store after a round that is accepted: as its first half leaves them
 abbrev pub roundMemory : Plan → Core → List DeviceAnswer → Memory → (ℕ → List Segment) → Memory
-roundMemory p c answers m done = roundHalves p answers (record { core = c; memory = m; done = done }) .memory
+roundMemory p c answers m done = takeAll p answers (p .«device_count») (record { core = c; memory = m; done = done }) .memory
 
 -- In a round with these answers, byte x of the image is acted on by the request that device d runs. Core c is that before the
 -- round.

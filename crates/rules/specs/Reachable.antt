@@ -44,13 +44,6 @@ pub record Reachable (p : Layout) (admits : ℕ → Task → Bool) (c : Core) : 
 pub need-known : {p : Layout} {admits : ℕ → Task → Bool} {a : ℕ} {j : Job} → Laws p admits → JobFits p admits a j → need p a j < p .devices
 need-known {a} {j} L f = L .segment-device a (j .task) (j .processed) (f .known) (f .admitted) (f .more)
 
--- so is a device where a request runs
-pub running-known : {p : Layout} {admits : ℕ → Task → Bool} {c : Core} → Laws p admits → Reachable p admits c →
-    {d a q : ℕ} → c .devices d ≡ Runs a q → d < p .devices
-running-known {p} {c} L r {d} {a} e =
-    let run = rw e at (r .devices d) in
-    subst (λ n. n < p .devices) (run .needed) (need-known L (r .jobs a (run .pending)))
-
 -- what is left of area a's job in a round in which the devices below n have given their answers
 abbrev pub leftAt : Layout → ℕ → Core → ℕ → Left
 leftAt p n c a = leftOf p (toCome n (need p a (c .jobs a))) a (c .jobs a) (c .devices (need p a (c .jobs a)))

@@ -20,6 +20,7 @@ use Rattle.plan.specs.Questions as Questions
 use Rattle.segment.specs.Mapping as Mapping
 use Rattle.segment.specs.Segments as Segments
 use Rattle.rules.specs.Layout as Layout
+use Rattle.rules.specs.Ranks as Ranks
 use Rattle.rules.specs.Machine as Machine
 use Rattle.rules.specs.Admission as Admission
 use Rattle.rules.specs.Statements.{BoundsReached, ownMost, belowMost}
@@ -48,7 +49,7 @@ tallies : let p = Records.planOf planT in let s = History.run p slow History.sta
     × (ownMost p s 0 ≡ 4)
     × (w .tallies 1 ≡ record { rounds = 1; own = 0; above = 0; below = 1; locked = 0; byRound = false })
     × (belowMost p w 1 ≡ 1)
-unfolding Bounded.every Bounded.sum FirstNo.firstNo Multiples.multiple Tables.table Parts.upd Number.numberAt Records.deviceAt Records.areaAt Records.granularityAt Records.subAreaAt Records.isRecord Records.recordsUpTo Records.recordsFrom Records.deviceCount Records.areasStart Records.areaCount Records.subAreasStart Records.subAreaCount Records.planOf Questions.sizeIn Mapping.find Mapping.mapped Segments.burstOrUnit Segments.segmentAt Segments.cut Segments.segmentsFrom Segments.spansAfter Segments.spans Segments.ownSum Segments.belowSum Segments.ownBound Segments.belowBound Layout.ranksAbove Layout.layoutOf Machine.jobFailed Machine.jobFinished Machine.takeAnswer Machine.ready Machine.best Machine.start Machine.secondHalf Machine.behind Machine.begin Admission.isInside Admission.isAligned Admission.fitsWindow Admission.jobQuestions Admission.imageFits Admission.storeReaches Admission.jobNumber Admission.roundNumber Round.takeIn Round.takeAll Round.roundHalves History.start History.roundOf History.submitted History.step History.run
+unfolding Bounded.every Bounded.sum FirstNo.firstNo Multiples.multiple Tables.table Parts.upd Number.numberAt Records.deviceAt Records.areaAt Records.granularityAt Records.subAreaAt Records.isRecord Records.recordsUpTo Records.recordsFrom Records.deviceCount Records.areasStart Records.areaCount Records.subAreasStart Records.subAreaCount Records.planOf Questions.sizeIn Mapping.find Mapping.mapped Segments.burstOrUnit Segments.segmentAt Segments.cut Segments.segmentsFrom Segments.spansAfter Segments.spans Segments.ownSum Segments.belowSum Segments.ownBound Segments.belowBound Ranks.agesAfter Ranks.rankAbove Layout.layoutOf Machine.jobFailed Machine.jobFinished Machine.takeAnswer Machine.ready Machine.best Machine.start Machine.secondHalf Machine.behind Machine.begin Admission.isInside Admission.isAligned Admission.fitsWindow Admission.jobQuestions Admission.imageFits Admission.storeReaches Admission.jobNumber Admission.roundNumber Round.takeIn Round.takeAll Round.roundHalves History.start History.roundOf History.submitted History.step History.run
 tallies = (refl, refl, refl, refl)
 
 -- own and below are as large as their bounds

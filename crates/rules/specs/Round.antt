@@ -11,7 +11,7 @@ use Rattle.segment.specs.declared.Segment.{Segment}
 use Rattle.state.specs.declared.DeviceState.{DeviceState}
 use Rattle.state.specs.declared.DeviceState.the-variants.{Free, Runs, LockedFor}
 use Rattle.state.specs.declared.Job.{Job}
-use Rattle.rules.specs.Layout.{layoutOf}
+use Rattle.rules.specs.Layout.{layoutOf, layoutAt}
 use Rattle.rules.specs.Machine.{Core, Verdict, goesOn, finished, differs, failed, due, takeAnswer, secondHalf}
 use Rattle.rules.specs.Memory.{Memory, verdictOf, memoryAfter}
 
@@ -70,8 +70,8 @@ unfoldable pub takeAll : Plan → List DeviceAnswer → ℕ → Half → Half
 takeAll p answers zero h = h
 takeAll p answers (suc n) h = takeIn p n (answerOf answers n) (takeAll p answers n h)
 
--- both halves
-unfoldable pub roundHalves : Plan → List DeviceAnswer → Half → Half
-roundHalves p answers h =
+-- both halves, when the areas have these ages
+unfoldable pub roundHalves : Plan → (ℕ → ℕ) → List DeviceAnswer → Half → Half
+roundHalves p ages answers h =
     let first = takeAll p answers (p .«device_count») h in
-    record { core = secondHalf (layoutOf p) (p .«device_count») (first .core); memory = first .memory; done = first .done }
+    record { core = secondHalf (layoutAt p ages) (p .«device_count») (first .core); memory = first .memory; done = first .done }

@@ -1,8 +1,8 @@
 -- Every call, and every list of calls.
 use Prim.Native.Nat.{ℕ, _<_}
-use mathlib.Core.Bool.{Bool, false≢true}
+use mathlib.Core.Bool.{Bool, true, false≢true}
 use mathlib.Core.List.{List, [], _∷_}
-use mathlib.Core.Path.{_≡_, refl}
+use mathlib.Core.Path.{_≡_, refl, sym, subst, _∙_}
 use native.Mathlib.Omega.{arith}
 use lib.Dec.{eqb}
 use Rattle.arith.specs.Cases.{pick, by-eqb}
@@ -13,33 +13,45 @@ use Rattle.rules.specs.Admission.{rangeDevice, jobNumber, releaseNumber,
 use Rattle.rules.specs.Admitted.{job-admitted, release-admitted, cancel-admitted}
 use Rattle.rules.specs.Calls.{cancel-passes, release-passes, begin-reachable, begin-tally}
 use Rattle.rules.specs.Close.{TallyFits, tally-stays, halves, close-fits}
-use Rattle.rules.specs.History.{Call, submit, releases, cancels, asks, round, History, withCore, start, roundOf, submitted, step, run}
+use Rattle.rules.specs.History.{Call, submit, releases, cancels, asks, round, History, withCore, lent, start, roundOf, submitted, step, run}
 use Rattle.rules.specs.Laws.{Laws}
-use Rattle.rules.specs.Layout.{Layout, layoutOf}
-use Rattle.rules.specs.Machine.{Core}
+use Rattle.rules.specs.Layout.{Layout, layoutOf, layoutAt}
+use Rattle.rules.specs.RankLaws.{AgesApart, ages-apart}
+use Rattle.rules.specs.Ranks.{agesAfter}
+use Rattle.rules.specs.Ranked.{cancel-ranked, reranked, tally-ranked, waits-kept}
+use Rattle.rules.specs.Machine.{Core, isPending, begin}
 use Rattle.rules.specs.Memory.{Memory}
 use Rattle.rules.specs.Potential.{left-idle}
 use Rattle.rules.specs.Reachable.{Reachable, Passes, passed}
-use Rattle.rules.specs.Round.{Half, roundHalves}
+use Rattle.rules.specs.Round.{roundHalves}
 use Rattle.rules.specs.RoundCore.{verdictAt, round-core}
 use Rattle.rules.specs.SecondHalf.{Started}
 
 -- what holds of every history
-pub record HistoryFits (p : Layout) (admits : ℕ → Task → Bool) (h : History) : Type 0 where
-  pub reachable : Reachable p admits (h .core)
-  pub tallies : (a : ℕ) → TallyFits p (h .core) a (h .tallies a)
+pub record HistoryFits (p : Plan) (h : History) : Type 0 where
+  pub reachable : Reachable (layoutOf p) (admits p) (h .core)
+  pub apart : AgesApart (h .ages)
+  pub tallies : (a : ℕ) → TallyFits (layoutAt p (h .ages)) (h .core) a (h .tallies a)
 
-module _ (p : Plan) (L : Laws (layoutOf p) (admits p)) where
+module _ (p : Plan) (L : (ages : ℕ → ℕ) → AgesApart ages → Laws (layoutAt p ages) (admits p)) where
   -- for this plan
   abbrev Fits : History → Type 0
-  Fits = HistoryFits (layoutOf p) (admits p)
+  Fits = HistoryFits p
+
+  -- with the ranks of a moment, and without
+  at : (ages : ℕ → ℕ) (c : Core) → Reachable (layoutOf p) (admits p) c → Reachable (layoutAt p ages) (admits p) c
+  at ages c = reranked (layoutOf p) (layoutOf p .outranks) (layoutAt p ages .outranks) (admits p) c
+
+  out : (ages : ℕ → ℕ) (c : Core) → Reachable (layoutAt p ages) (admits p) c → Reachable (layoutOf p) (admits p) c
+  out ages c = reranked (layoutOf p) (layoutAt p ages .outranks) (layoutOf p .outranks) (admits p) c
 
   -- a call that changes the core and counts nothing
-  passes-fits : (h : History) (e : Core) → Fits h → Passes (layoutOf p) (admits p) 0 0 (h .core) e → Fits (withCore e h)
+  passes-fits : (h : History) (e : Core) → Fits h → Passes (layoutAt p (h .ages)) (admits p) 0 0 (h .core) e → Fits (withCore e h)
   passes-fits h e f s =
       record {
-        reachable = passed (f .reachable) s;
-        tallies = λ a. tally-stays (layoutOf p) (admits p) (h .core) e a (h .tallies a) (s .areas a) (f .tallies a);
+        reachable = out (h .ages) e (passed (at (h .ages) (h .core) (f .reachable)) s);
+        apart = f .apart;
+        tallies = λ a. tally-stays (layoutAt p (h .ages)) (admits p) (h .core) e a (h .tallies a) (s .areas a) (f .tallies a);
       }
 
   -- a known area of the plan is one of its layout
@@ -49,25 +61,47 @@ module _ (p : Plan) (L : Laws (layoutOf p) (admits p)) where
 
   -- an accepted job
   submitted-fits : (a : ℕ) (t : Task) (h : History) → Fits h → jobNumber p (h .core) a t ≡ 0 → Fits (submitted p a t h)
-  unfolding submitted
+  unfolding submitted begin
   submitted-fits a t h f e =
       let m = job-admitted p (h .core) a t e in
+      let l = known a (m .0) in
+      let after = agesAfter a (h .ages) in
+      let apart = ages-apart a (h .ages) (f .apart) in
+      let r = at after (h .core) (f .reachable) in
       record {
-        reachable = begin-reachable (layoutOf p) (admits p) (h .core) (f .reachable) L a t (known a (m .0)) (m .1) (m .2);
-        tallies = begin-tally (layoutOf p) (admits p) (h .core) (f .reachable) L a t (known a (m .0)) (m .1) (m .2) (h .tallies) (f .tallies);
+        reachable = out after _ (begin-reachable (layoutAt p after) (admits p) (h .core) r (L after apart) a t l (m .1) (m .2));
+        apart = apart;
+        tallies = begin-tally (layoutAt p after) (admits p) (h .core) r (L after apart) a t l (m .1) (m .2) (h .tallies)
+            (λ b. tally-ranked (layoutOf p) _ _ (h .core) b (h .tallies b)
+            (waits-kept p (h .ages) (f .apart) (admits p) (h .core) (f .reachable) a (m .1) b) (f .tallies b));
       }
+
+  -- both halves of an accepted round
+  round-started : (answers : List DeviceAnswer) (m : Memory) (h : History) → Fits h → let l = layoutAt p (h .ages) in
+      Started l (admits p) 0 (l .devices) (h .core) (roundHalves p (h .ages) answers (lent m h) .core)
+  round-started answers m h f =
+      let l = layoutAt p (h .ages) in
+      rw (round-core p answers (lent m h) (h .ages))
+      (halves l (admits p) (L (h .ages) (f .apart)) (h .core) (at (h .ages) (h .core) (f .reachable)) (verdictAt p answers (lent m h)))
 
   -- an accepted round
   round-fits : (answers : List DeviceAnswer) (m : Memory) (h : History) → Fits h → Fits (roundOf p answers m h)
   unfolding roundOf
   round-fits answers m h f =
-      let half : Half = record { core = h .core; memory = m; done = h .done } in
-      let s : Started (layoutOf p) (admits p) 0 (layoutOf p .devices) (h .core) (roundHalves p answers half .core)
-      = rw (round-core p answers half) (halves (layoutOf p) (admits p) L (h .core) (f .reachable) (verdictAt p answers half)) in
+      let l = layoutAt p (h .ages) in
+      let r = at (h .ages) (h .core) (f .reachable) in
+      let s = round-started answers m h f in
       record {
-        reachable = passed (f .reachable) (s .passes);
-        tallies = λ a. close-fits (layoutOf p) (admits p) L (h .core) (f .reachable) _ s a (h .tallies a) (f .tallies a);
+        reachable = out (h .ages) _ (passed r (s .passes));
+        apart = f .apart;
+        tallies = λ a. close-fits l (admits p) (L (h .ages) (f .apart)) (h .core) r _ s a (h .tallies a) (f .tallies a);
       }
+
+  -- it makes no area pending
+  pub round-pending : (answers : List DeviceAnswer) (m : Memory) (h : History) → Fits h → (a : ℕ) →
+      isPending (roundOf p answers m h .core .jobs a) ≡ true → isPending (h .core .jobs a) ≡ true
+  unfolding roundOf
+  round-pending answers m h f a = round-started answers m h f .passes .areas a .pending
 
   -- a refused call returns the history itself
   accepted-fits : (n : ℕ) (g h : History) → (n ≡ 0 → Fits g) → Fits h → Fits (pick (eqb n 0) g h)
@@ -80,12 +114,13 @@ module _ (p : Plan) (L : Laws (layoutOf p) (admits p)) where
   step-fits (releases a address n) h f =
       accepted-fits (releaseNumber p (h .core) a address n) _ h
       (λ e. passes-fits h _ f
-      (release-passes (layoutOf p) (admits p) (h .core) (f .reachable) (rangeDevice p a address n) a (release-admitted p (h .core) a address n e)))
+      (release-passes (layoutAt p (h .ages)) (admits p) (h .core) (at (h .ages) (h .core) (f .reachable)) (rangeDevice p a address n) a (release-admitted p (h .core) a address n e)))
       f
   step-fits (cancels a) h f =
       accepted-fits (cancelNumber p (h .core) a) _ h
       (λ e. passes-fits h _ f
-      (cancel-passes (layoutOf p) (admits p) (h .core) (f .reachable) a (cancel-admitted p (h .core) a e)))
+      (subst (Passes (layoutAt p (h .ages)) (admits p) 0 0 (h .core)) (cancel-ranked (layoutOf p) _ (layoutOf p .outranks) a (h .core))
+      (cancel-passes (layoutAt p (h .ages)) (admits p) (h .core) (at (h .ages) (h .core) (f .reachable)) a (cancel-admitted p (h .core) a e))))
       f
   step-fits (asks q) h f = f
   step-fits (round answers m) h f = accepted-fits (roundNumber p (m .image) (m .store)) _ h (λ _. round-fits answers m h f) f
@@ -102,6 +137,7 @@ module _ (p : Plan) (L : Laws (layoutOf p) (admits p)) where
   start-fits =
       record {
         reachable = record { devices = λ d. tt; jobs = λ a h. absurd (false≢true h); cancelled = λ a h. absurd (false≢true h) };
+        apart = λ a b e. e;
         tallies = λ a. record { sum = refl; by-round = λ _. refl; left = simp left-idle (omega arith) };
       }
 

@@ -69,7 +69,7 @@ memoryOf p (releases a address n) h m = m
 memoryOf p (cancels a) h m = m
 memoryOf p (asks q) h m = m
 memoryOf p (round answers n) h m =
-    pick (eqb (roundNumber p (n .image) (n .store)) 0) (roundHalves p answers (lent n h) .memory) m
+    pick (eqb (roundNumber p (n .image) (n .store)) 0) (roundHalves p (h .ages) answers (lent n h) .memory) m
 
 -- a line of the bench is a call, to which a round's memory is lent
 pub data Line : Type 0 where

@@ -1,11 +1,13 @@
 -- document 00: the three demands, after every list of calls
 use Prim.Native.Nat.{ℕ, _+_, _≤_, _<_}
-use mathlib.Core.Bool.{true, false}
-use mathlib.Core.List.{List, []}
+use mathlib.Core.Bool.{Bool, true, false, not}
+use mathlib.Core.List.{List, [], _∷_}
 use mathlib.Core.Logic.{_≢_}
 use mathlib.Core.Path.{_≡_}
+use lib.Dec.{ltb, eqb}
 use lib.ListN.{length, getD}
 use Rattle.arith.specs.Cases.{pick}
+use Rattle.arith.specs.Parts.{upd}
 use Rattle.memory.specs.declared.DeviceAnswer.{DeviceAnswer}
 use Rattle.memory.specs.declared.DeviceAnswer.the-variants as Answers
 use Rattle.memory.specs.declared.JobType.the-variants.{Write, Read}
@@ -18,8 +20,8 @@ use Rattle.segment.specs.Bytes.{joined, mappedByte, mappedBytes}
 use Rattle.segment.specs.Segments.{isLock, ownBound, belowBound}
 use Rattle.state.specs.declared.DeviceState.the-variants.{Runs}
 use Rattle.rules.specs.Admission.{jobNumber, cancelNumber, roundNumber}
-use Rattle.rules.specs.History.{Call, submit, cancels, round, noTally, History, start, step, run}
-use Rattle.rules.specs.Layout.{layoutOf}
+use Rattle.rules.specs.History.{Call, submit, releases, cancels, asks, round, noTally, History, start, step, run}
+use Rattle.rules.specs.Layout.{priorityOf, layoutOf, layoutAt}
 use Rattle.rules.specs.Machine.{Core, isPending, isCancelling, isOwn, waitOf}
 use Rattle.rules.specs.Memory.{Memory}
 use Rattle.rules.specs.Reach.{callNumber, isRound, requestOf, ImageActed, imageValue, StoreActed, storeValue}
@@ -107,12 +109,50 @@ pub record Demand3 (p : Plan) (h : History) (a : ℕ) : Type 0 where
   -- "Below is at most patience less one, summed over its stretches on one chip."
   pub below : h .tallies a .below ≤ belowMost p h a
 
+-- area a ranks above area b: the rank by which rounds pick and count (`roundOf`)
+abbrev pub isAbove : Plan → History → ℕ → ℕ → Bool
+isAbove p h = layoutAt p (h .ages) .outranks
+
+-- document 02, 01: "Areas of equal priority shall be ranked by acceptance: the earlier accepted job is above."
+pub record FirstCome (p : Plan) (h : History) : Type 0 where
+  -- "the larger priority is above"
+  pub larger-above : (a b : ℕ) → priorityOf p b < priorityOf p a → isAbove p h a b ≡ true
+  -- of two areas one is above the other
+  pub one-above : (a b : ℕ) → a ≢ b → isAbove p h a b ≡ not (isAbove p h b a)
+  -- an accepted job, a lock request too, has every other pending job of its priority above it
+  pub accepted-last : (a : ℕ) (t : Task) → jobNumber p (h .core) a t ≡ 0 → let e = step p (submit a t) h in
+      (b : ℕ) → b ≢ a → isPending (e .core .jobs b) ≡ true → priorityOf p b ≡ priorityOf p a → isAbove p e b a ≡ true
+  -- no call changes which of two pending jobs is above
+  pub kept : (k : Call) (a b : ℕ) → isPending (h .core .jobs a) ≡ true → isPending (h .core .jobs b) ≡ true →
+      isAbove p (step p k h) a b ≡ isAbove p h a b
+
+-- The calls of a list, numbered from n on: the number of the one that accepted each area's latest job. Before call k, at history h, they
+-- are `at`.
+abbrev pub noted : Plan → ℕ → Call → History → (ℕ → ℕ) → ℕ → ℕ
+noted p n (submit a t) h at = pick (eqb (jobNumber p (h .core) a t) 0) (upd at a n) at
+noted p n (releases a address l) h at = at
+noted p n (cancels a) h at = at
+noted p n (asks q) h at = at
+noted p n (round answers m) h at = at
+
+unfoldable pub acceptedFrom : Plan → ℕ → List Call → History → (ℕ → ℕ) → ℕ → ℕ
+acceptedFrom p n [] h at = at
+acceptedFrom p n (k ∷ ks) h at = acceptedFrom p (n + 1) ks (step p k h) (noted p n k h at)
+
+abbrev pub acceptedAt : Plan → List Call → ℕ → ℕ
+acceptedAt p cs = acceptedFrom p 0 cs start (λ a. 0)
+
 -- "This holds after every list of jobs, locks, releases, cancels, queries and rounds from an accepted load, refused ones
 -- included, whatever the chips answer and whatever image and store hold."
 pub record Demands (l : List ℕ) (cs : List Call) : Type 0 where
   pub demand1 : Demand1 (planOf l) (run (planOf l) cs start)
   pub demand2 : (a : ℕ) → Demand2 (planOf l) (run (planOf l) cs start) a
   pub demand3 : (a : ℕ) → Demand3 (planOf l) (run (planOf l) cs start) a
+  pub first-come : FirstCome (planOf l) (run (planOf l) cs start)
+  -- "the earlier accepted job is above": what `first-come` comes to over all calls
+  pub by-acceptance : let p = planOf l in let h = run p cs start in
+      (a b : ℕ) → a ≢ b → isPending (h .core .jobs a) ≡ true → isPending (h .core .jobs b) ≡ true → priorityOf p a ≡ priorityOf p b →
+      isAbove p h a b ≡ ltb (acceptedAt p cs a) (acceptedAt p cs b)
 
 abbrev pub AllDemands : Type 0
 AllDemands = (l : List ℕ) → loadNumber l ≡ 0 → (cs : List Call) → Demands l cs

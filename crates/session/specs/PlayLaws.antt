@@ -24,22 +24,22 @@ use Rattle.rules.specs.Memory.{Memory}
 use Rattle.session.specs.declared.play.Played.{Played}
 use Rattle.session.specs.Play.{numberOfCall, afterCall, infoText, roundText, fourAnswers, textOfLine, afterLine, memoryAfterLine, lineIn, playedText, playedManager, playedMemory}
 
--- the manager with other areas and devices: no line changes the plan
-abbrev pub withState : Manager → List Area → List Device → Manager
-withState m areas devices = record { plan = m .plan; areas = areas; devices = devices }
+-- the manager with other areas, devices and ages: no line changes the plan
+abbrev pub withState : Manager → List Area → List Device → List ℕ → Manager
+withState m areas devices ages = record { plan = m .plan; areas = areas; devices = devices; ages = ages }
 
 -- what is handed on of a manager, and the manager that this leaves
 abbrev pub playedOf : Manager → ℕ → Played
-playedOf next end = record { areas = next .areas; devices = next .devices; end = end }
+playedOf next end = record { areas = next .areas; devices = next .devices; ages = next .ages; end = end }
 
 abbrev pub leftBy : Manager → Played → Manager
-leftBy m r = withState m (r .areas) (r .devices)
+leftBy m r = withState m (r .areas) (r .devices) (r .ages)
 
-pub kept-state : (m next after : Manager) → next ≡ after → after .plan ≡ m .plan → withState m (next .areas) (next .devices) ≡ after
+pub kept-state : (m next after : Manager) → next ≡ after → after .plan ≡ m .plan → withState m (next .areas) (next .devices) (next .ages) ≡ after
 kept-state m next after e k = rw e (same-state m after k)
   where
-    same-state : (m after : Manager) → after .plan ≡ m .plan → withState m (after .areas) (after .devices) ≡ after
-    same-state m after k i = record { plan = sym k i; areas = after .areas; devices = after .devices }
+    same-state : (m after : Manager) → after .plan ≡ m .plan → withState m (after .areas) (after .devices) (after .ages) ≡ after
+    same-state m after k i = record { plan = sym k i; areas = after .areas; devices = after .devices; ages = after .ages }
 
 pub kept-played : (m next after : Manager) (r : Played) {a b text : List ℕ} {i j : ℕ} → r ≡ playedOf next j → next ≡ after → after .plan ≡ m .plan →
     Appended a b i j text → j ≤ i + 338 → (leftBy m r ≡ after) × (Appended a b i (r .end) text) × (r .end ≤ i + 338)
@@ -82,7 +82,7 @@ module _ {a b : List ℕ} {i j : ℕ} (n m : ℕ) (e : m ≡ n) (x y : JobInfo) 
 pub number-same : {a b : List ℕ} {i j n m : ℕ} → n ≡ m → Appended a b i j (numberLine n) → Appended a b i j (numberLine m)
 number-same e p = rw e at p
 
--- what a line did: the areas and devices that it left, the lent memory, and the text that it printed
+-- what a line did: the areas, devices and ages that it left, the lent memory, and the text that it printed
 abbrev pub LineDone : Line → Manager → Played → Memory → Memory → List ℕ → List ℕ → ℕ → Type 0
 LineDone l m r lent memory before after at =
     (leftBy m r ≡ afterLine l m lent)

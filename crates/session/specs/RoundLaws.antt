@@ -17,6 +17,7 @@ use Rattle.rules.specs.Memory.{Memory}
 use Rattle.rules.specs.Round.{roundHalves}
 use Rattle.shown.specs.Known.{AllBelow, runs-more, round-below, sound-below}
 use Rattle.shown.specs.Shown.{devicesLine}
+use Rattle.state.specs.Ages.{ageIn}
 use Rattle.state.specs.Fresh.{freeDevice}
 use Rattle.state.specs.declared.Device.{Device}
 use Rattle.texts.specs.Appended.{Appended}
@@ -34,14 +35,14 @@ module _ (m : Manager) (answers : List DeviceAnswer) (lent : Memory) (e : roundN
   unfolding roundNumberOf
   round-sound = by-bool (isSound (m .plan) (m .areas) (m .devices)) (λ t. t) (λ f. absurd (omega (arith, rw f at e)))
 
-  left-below : AllBelow 8 (m .plan .«device_count») (stateIn (devicesAfter (halvesOf (m .plan) (m .areas) (m .devices) answers lent .core)))
+  left-below : AllBelow 8 (m .plan .«device_count») (stateIn (devicesAfter (halvesOf (m .plan) (m .areas) (m .devices) (m .ages) answers lent .core)))
   unfolding halvesOf
   left-below d h =
       let few = sound-counts (m .plan) (m .areas) (m .devices) round-sound in
-      let after = roundHalves (m .plan) answers (lentTo (m .areas) (m .devices) lent) .core in
+      let after = roundHalves (m .plan) (ageIn (m .ages)) answers (lentTo (m .areas) (m .devices) lent) .core in
       rw (devices-at after d (omega (arith, few .0)))
       (runs-more (m .plan .«area_count») 8 (few .1) (after .devices d)
-      (round-below (m .plan) answers (lentTo (m .areas) (m .devices) lent) (sound-below (m .plan) (m .areas) (m .devices) round-sound) d h))
+      (round-below (m .plan) answers (ageIn (m .ages)) (lentTo (m .areas) (m .devices) lent) (sound-below (m .plan) (m .areas) (m .devices) round-sound) d h))
 
   -- and leaves what can be shown
   pub round-shows : (next : Manager) → next ≡ afterRound m answers lent →

@@ -48,10 +48,12 @@ fn play_last(
     let plan = manager.plan;
     let areas = played.areas;
     let devices = played.devices;
+    let ages = played.ages;
     let next = Manager {
         plan,
         areas,
         devices,
+        ages,
     };
     Progress {
         manager: next,
@@ -91,8 +93,10 @@ pub fn play_lines(
         let played = play(next, &input[at..to], image, store, out, end);
         let areas = played.areas;
         let devices = played.devices;
+        let ages = played.ages;
         next.areas = areas;
         next.devices = devices;
+        next.ages = ages;
         end = played.end;
         at = to + 1;
     }

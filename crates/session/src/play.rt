@@ -23,11 +23,12 @@ use texts::info_line;
 use texts::number_line;
 use texts::question_line;
 
-// What a line leaves of the manager's areas and devices (the plan never changes, and is long to hand on), and where the
+// What a line leaves of all that moves in the manager (the plan never changes, and is long to hand on), and where the
 // answer ends in the buffer.
 pub struct Played {
     pub areas: [Area; 8],
     pub devices: [Device; 4],
+    pub ages: [u8; 8],
     pub end: usize,
 }
 
@@ -37,9 +38,11 @@ impl Played {
     {
         let areas = next.areas;
         let devices = next.devices;
+        let ages = next.ages;
         Played {
             areas,
             devices,
+            ages,
             end,
         }
     }

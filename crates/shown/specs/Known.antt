@@ -13,7 +13,7 @@ use Rattle.arith.specs.Plain.{and-plain}
 use Rattle.machine.specs.Sound.{isSound, requestSound, stateSound, jobIn, stateIn}
 use Rattle.memory.specs.declared.DeviceAnswer.{DeviceAnswer}
 use Rattle.plan.specs.declared.records.Plan.{Plan}
-use Rattle.rules.specs.Layout.{Layout, layoutOf}
+use Rattle.rules.specs.Layout.{Layout, layoutOf, layoutAt}
 use Rattle.rules.specs.Machine.{Core, Verdict, goesOn, finished, differs, failed, takeRunning, takeOn, takeAnswer, Choice, nobody, area, better, ready, best, startJob, startChoice, startOn, start, secondHalf}
 use Rattle.rules.specs.Round.{Half, answerOf, verdictOn, takeIn, takeAll, roundHalves}
 use Rattle.segment.specs.Segments.{isLock}
@@ -105,11 +105,11 @@ module _ (p : Plan) (answers : List DeviceAnswer) where
       take-below (layoutOf p) (p .«area_count») n m (verdictOn p (takeAll p answers n h .core .devices n) (answerOf answers n) (takeAll p answers n h .core .jobs) (takeAll p answers n h .memory)) (takeAll p answers n h .core) (omega arith) (first-below m n h (omega arith) b) e k
 
   -- a round leaves it so
-  pub round-below : (h : Half) → AllBelow (p .«area_count») (p .«device_count») (h .core .devices) →
-      AllBelow (p .«area_count») (p .«device_count») (roundHalves p answers h .core .devices)
+  pub round-below : (ages : ℕ → ℕ) (h : Half) → AllBelow (p .«area_count») (p .«device_count») (h .core .devices) →
+      AllBelow (p .«area_count») (p .«device_count») (roundHalves p ages answers h .core .devices)
   unfolding roundHalves layoutOf
-  round-below h b =
-      second-below (layoutOf p) (p .«device_count») (p .«device_count») (takeAll p answers (p .«device_count») h .core)
+  round-below ages h b =
+      second-below (layoutAt p ages) (p .«device_count») (p .«device_count») (takeAll p answers (p .«device_count») h .core)
       (first-below (p .«device_count») (p .«device_count») h (omega arith) b)
 
 -- the soundness test says it

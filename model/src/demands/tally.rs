@@ -3,7 +3,9 @@
 use crate::calls::Call;
 use crate::histogram::Histogram;
 use crate::jobs::JobResult;
-use crate::wait_book::{Entry, Numbers};
+use crate::plan::{Plan, MOST_AREAS};
+use crate::segments::index;
+use crate::wait_book::{Entry, Numbers, Station, WaitBook};
 use std::collections::BTreeMap;
 use std::fmt;
 
@@ -23,6 +25,23 @@ pub struct Tally {
     /// Jobs that ended with own, or with a below other than 0, at its bound.
     pub own_bounds_reached: u64,
     pub below_bounds_reached: u64,
+    /// Jobs and locks accepted for each area.
+    pub acceptances: [u64; MOST_AREAS],
+    pub equals: Equals,
+}
+
+/// How often the order of acceptance decided between areas of equal priority.
+#[derive(Clone, Copy, Debug, Default, PartialEq, Eq)]
+pub struct Equals {
+    /// A device took the higher number of two areas, and the lower.
+    pub higher_taken: u64,
+    pub lower_taken: u64,
+    /// A lock was given before another's request, and a request started before another's lock.
+    pub lock_taken: u64,
+    pub lock_left: u64,
+    /// A round closed with the running area above the waiting one, and below it.
+    pub above: u64,
+    pub below: u64,
 }
 
 impl Tally {
@@ -30,6 +49,9 @@ impl Tally {
         self.calls += 1;
         self.numbers.add(number);
         self.rounds += u64::from(number == 0 && matches!(call, Call::Round(_)));
+        if let (0, Call::Job(_, target) | Call::Lock(target)) = (number, call) {
+            self.acceptances[index(u64::from(target.area))] += 1;
+        }
     }
 
     /// What a step did to an area's job.
@@ -51,6 +73,28 @@ impl Tally {
         }
     }
 
+    /// What an accepted round did between areas of equal priority. A job that needs a device and
+    /// does not have it was passed over by whatever began there in this round.
+    pub fn add_equals(&mut self, plan: &Plan, before: &WaitBook, after: &WaitBook) {
+        for device in 0..plan.devices.len() {
+            let (area, has_begun) = match (before.station(device), after.station(device)) {
+                (_, Station::Runs { area, polls, .. }) => (area, polls == 0),
+                (Station::LockedFor(_), Station::LockedFor(_)) | (_, Station::Nothing) => continue,
+                (_, Station::LockedFor(area)) => (area, true),
+            };
+            let priority = |area: usize| plan.areas[area].priority;
+            for other in (0..plan.areas.len()).filter(|other| *other != area) {
+                let waits = after.entry(other).needs() == Some(device);
+                if waits && priority(other) == priority(area) {
+                    self.equals.add_closed(before.entry(other), after.entry(other));
+                    if has_begun {
+                        self.equals.add_taken(after, area, other);
+                    }
+                }
+            }
+        }
+    }
+
     /// A job ended with these numbers and bounds.
     pub fn add_bounds(&mut self, own: (u128, u128), below: (u128, u128)) {
         self.own_bounds_reached += u64::from(own.0 > 0 && own.0 == own.1);
@@ -61,6 +105,33 @@ impl Tally {
     pub fn results(&self, result: u8) -> u64 {
         let endings = self.endings.iter().filter(|((_, ended), _)| *ended == result);
         endings.map(|(_, count)| count).sum()
+    }
+}
+
+impl Equals {
+    /// A device took an area before another.
+    fn add_taken(&mut self, book: &WaitBook, taken: usize, other: usize) {
+        self.higher_taken += u64::from(taken > other);
+        self.lower_taken += u64::from(taken < other);
+        self.lock_taken += u64::from(book.entry(taken).is_lock());
+        self.lock_left += u64::from(book.entry(other).is_lock());
+    }
+
+    /// A round closed in which an area waited for another.
+    fn add_closed(&mut self, before: &Entry, after: &Entry) {
+        self.above += u64::from(after.numbers.above > before.numbers.above);
+        self.below += u64::from(after.numbers.below > before.numbers.below);
+    }
+
+    pub fn counts(&self) -> [(&'static str, u64); 6] {
+        [
+            ("the higher number taken", self.higher_taken),
+            ("the lower number taken", self.lower_taken),
+            ("a lock taken", self.lock_taken),
+            ("a lock left", self.lock_left),
+            ("above", self.above),
+            ("below", self.below),
+        ]
     }
 }
 
@@ -77,6 +148,10 @@ impl fmt::Display for Tally {
         writeln!(f, "waits: own {own}, above {above}, below {below}, locked {locked}")?;
         writeln!(f, "pieces done: {}, retries: {}", self.done_pieces, self.retries)?;
         let (own, below) = (self.own_bounds_reached, self.below_bounds_reached);
-        write!(f, "jobs at the bound on own: {own}, on below: {below}")
+        write!(f, "jobs at the bound on own: {own}, on below: {below}\nbetween equals:")?;
+        for (name, count) in self.equals.counts() {
+            write!(f, " {name}: {count}")?;
+        }
+        Ok(())
     }
 }

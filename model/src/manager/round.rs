@@ -158,11 +158,13 @@ impl Manager {
         }
     }
 
-    /// "Rank: the larger priority is above; among equal ones the lower area number."
+    /// "the larger priority is above"; "Areas of equal priority shall be ranked by acceptance: the
+    /// earlier accepted job is above."
     fn ranks_above(&self, area: usize, other: usize) -> bool {
         let priority = self.plan.areas[area].priority;
         let other_priority = self.plan.areas[other].priority;
-        priority > other_priority || (priority == other_priority && area < other)
+        let is_earlier = self.areas[area].acceptance < self.areas[other].acceptance;
+        priority > other_priority || (priority == other_priority && is_earlier)
     }
 
     /// "When the round closes, each job pending since before it adds 1 to one count." Calls and

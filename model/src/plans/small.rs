@@ -13,6 +13,13 @@ pub fn small(random: &mut Random) -> Plan {
     of_counts(random, device_count, area_count, sub_area_count)
 }
 
+/// Areas of several sub-areas on few devices, so that jobs go from one to the other and meet.
+pub fn crowded(random: &mut Random) -> Plan {
+    let device_count = random.pick(&[1, 2, 2, 3]);
+    let area_count = random.pick(&[2, 3, 4, 8]);
+    of_counts(random, device_count, area_count, 3 * area_count)
+}
+
 /// As many records as can be accepted, each of them small.
 pub fn full(random: &mut Random) -> Plan {
     of_counts(random, 4, 8, 32)
@@ -66,8 +73,11 @@ fn sub_area_from(random: &mut Random, end: u32, device: u32) -> SubArea {
     }
 }
 
-/// Windows from 0 on. Priorities are few, so that equal ones are frequent.
+/// Windows from 0 on. Priorities are few, one or two at times, so that equal ones are frequent.
 fn areas(random: &mut Random, area_count: u32, plan: &Plan) -> Vec<Area> {
+    let mut priorities = [0, 1, 2, 65_535];
+    random.shuffle(&mut priorities);
+    let priorities = &priorities[..random.pick(&[1, 1, 2, 2, 4])];
     let mut window_end = 0;
     let mut areas = Vec::new();
     for number in (0..).take(usize::try_from(area_count).expect("at most 8 areas")) {
@@ -75,7 +85,7 @@ fn areas(random: &mut Random, area_count: u32, plan: &Plan) -> Vec<Area> {
         let window_start = window_end + random.below(2);
         let window_length = random.pick(&[0, 4, 8, 16, 16, 32, 32]);
         window_end = window_start + window_length;
-        let priority = random.pick(&[0, 1, 2, 65_535]);
+        let priority = random.pick(priorities);
         let logical_start = random.pick(&[0, 100, LOGICAL_LIMIT - size]);
         areas.push(Area { priority, logical_start, window_start, window_length });
     }

@@ -114,11 +114,13 @@ pub(super) fn spread_over_areas(random: &mut Random, area_count: u32, sub_areas:
 
 fn areas(random: &mut Random, area_count: u32, plan: &Plan) -> Vec<Area> {
     let windows = windows(random, area_count);
-    let one_priority = random.one_in(2).then(|| priority(random));
+    // All of one priority, of two, or each of its own.
+    let two = [priority(random), priority(random)];
+    let few = random.pick(&[&two[..1], &two, &[]]);
     let area = |(number, (start, end)): (usize, (u32, u32))| {
         let size = u32::try_from(plan.area_size(number)).expect("sub-areas lie in the image");
         Area {
-            priority: one_priority.unwrap_or_else(|| priority(random)),
+            priority: if few.is_empty() { priority(random) } else { random.pick(few) },
             logical_start: match random.below(3) {
                 0 => 0,
                 1 => LOGICAL_LIMIT - size,

@@ -30,6 +30,12 @@ pub fn lines(random: &mut Random, plan: &Plan, count: usize) -> Vec<Line> {
     lines
 }
 
+/// The plain lines that ask for these calls, as far as lines can.
+pub fn lines_of(calls: &[Call], plan: &Plan) -> Vec<Vec<u8>> {
+    let device_count = plan.devices.len();
+    calls.iter().filter_map(|call| fields(call, device_count)).map(|f| joined(&f)).collect()
+}
+
 /// The bytes of the lines, the last one with or without its end.
 pub fn text(lines: &[Line], is_last_ended: bool) -> Vec<u8> {
     let texts: Vec<_> = lines.iter().map(|line| line.text.as_slice()).collect();

@@ -3,7 +3,6 @@
 use super::{Entry, Numbers, Station, Task, WaitBook};
 use crate::admission;
 use crate::jobs::{Answer, Operation};
-use crate::plan::Plan;
 use crate::segments::{index, Piece};
 use std::cmp::{Ordering, Reverse};
 
@@ -137,7 +136,9 @@ impl WaitBook {
             stations: self.stations.into_iter().zip(fates).map(station).collect(),
             entries: self.entries.into_iter().enumerate().map(entry).collect(),
             plan: self.plan,
+            order: self.order,
         }
+        .without_ended()
     }
 
     /// The second half. Each job needs one device, so what one device picks is no matter for the
@@ -161,7 +162,7 @@ impl WaitBook {
             }
         };
         let entries = self.entries.into_iter().enumerate().map(entry).collect();
-        WaitBook { stations, entries, plan: self.plan }
+        WaitBook { stations, entries, plan: self.plan, order: self.order }.without_ended()
     }
 
     /// The area that an unlocked device with nothing running starts something for: of those that
@@ -171,7 +172,7 @@ impl WaitBook {
         match self.stations[device] {
             Station::Nothing => {
                 let areas = (0..self.entries.len()).filter(needs_it);
-                areas.min_by_key(|area| rank(&self.plan, *area))
+                areas.min_by_key(|area| self.rank(*area))
             }
             Station::Runs { .. } | Station::LockedFor(_) => None,
         }
@@ -181,7 +182,8 @@ impl WaitBook {
     /// runs on the device it needs, to above if that area ranks above the job's, to below if under
     /// it; else, if that device is locked, to locked."
     fn after_counting(self) -> WaitBook {
-        let WaitBook { plan, stations, entries } = self;
+        let ranks: Vec<_> = (0..self.entries.len()).map(|area| self.rank(area)).collect();
+        let WaitBook { plan, stations, entries, order } = self;
         let counted = |(area, entry): (usize, Entry)| {
             let own = stations.iter().any(
                 |station| matches!(station, Station::Runs { area: runner, .. } if *runner == area),
@@ -189,20 +191,25 @@ impl WaitBook {
             let n = entry.numbers;
             let numbers = match entry.needs().map(|device| stations[device]) {
                 Some(_) if own => Numbers { own: n.own + 1, ..n },
-                Some(Station::Runs { area: other, .. }) => {
-                    match rank(&plan, other).cmp(&rank(&plan, area)) {
-                        Ordering::Less => Numbers { above: n.above + 1, ..n },
-                        Ordering::Equal => n,
-                        Ordering::Greater => Numbers { below: n.below + 1, ..n },
-                    }
-                }
+                Some(Station::Runs { area: other, .. }) => match ranks[other].cmp(&ranks[area]) {
+                    Ordering::Less => Numbers { above: n.above + 1, ..n },
+                    Ordering::Equal => n,
+                    Ordering::Greater => Numbers { below: n.below + 1, ..n },
+                },
                 Some(Station::LockedFor(_)) => Numbers { locked: n.locked + 1, ..n },
                 Some(Station::Nothing) | None => n,
             };
             Entry { numbers, ..entry }
         };
         let entries = entries.into_iter().enumerate().map(counted).collect();
-        WaitBook { plan, stations, entries }
+        WaitBook { plan, stations, entries, order }
+    }
+
+    /// Sorts pending areas by rank, the highest first: "the larger priority is above"; "Areas of
+    /// equal priority shall be ranked by acceptance: the earlier accepted job is above."
+    fn rank(&self, area: usize) -> (Reverse<u16>, Option<usize>) {
+        let place = self.order.iter().position(|pending| *pending == area);
+        (Reverse(self.plan.areas[area].priority), place)
     }
 }
 
@@ -232,10 +239,4 @@ impl Entry {
     fn ended_by_round(self) -> Entry {
         Entry { is_pending: false, round_ended_it: true, ..self }
     }
-}
-
-/// Sorts areas by rank, the highest first: "the larger priority is above; among equal ones the lower
-/// area number".
-fn rank(plan: &Plan, area: usize) -> (Reverse<u16>, usize) {
-    (Reverse(plan.areas[area].priority), area)
 }

@@ -1,9 +1,12 @@
 //! Subjects that are wrong on purpose: the model with its plan, its lines or its output changed on
-//! the way. The comparison must find each of them.
+//! the way, or with another order of acceptance. The comparison must find each of them.
+
+mod order;
 
 use model::plan::{self, Plan};
 use model::plans::encode;
 use model::subject::{Model, Subject};
+use order::{Event, Places};
 
 /// From plan, input, image and store to the output.
 type WrongSession = fn(&[u8], &[u8], &mut [u8], &mut [u8]) -> Vec<u8>;
@@ -25,12 +28,37 @@ impl Subject for Mutant {
     }
 }
 
+/// Makes a mutant of a keeper of the order.
+macro_rules! order_mutant {
+    ($name:expr, $keeper:expr) => {
+        Mutant {
+            name: $name,
+            session: |plan, input, image, store| order::session($keeper, plan, input, image, store),
+        }
+    };
+}
+
 pub fn all() -> Vec<Mutant> {
     let mut all = of_plans();
     all.extend(of_lines());
     all.extend(of_outputs());
     all.extend(of_memory());
+    all.extend(of_order());
     all
+}
+
+/// Wrong only after hundreds of acceptances: nothing that can be made small.
+pub fn lasting() -> Vec<Mutant> {
+    vec![order_mutant!("acceptances are counted in a byte", |places, event| {
+        if let Event::Accepted { area, .. } = event {
+            places.numbers[area] = places.last() % 256;
+        }
+    })]
+}
+
+/// No mutant: the order is kept by another hand, but as the rules have it.
+pub fn right_order() -> Mutant {
+    order_mutant!("the right order", Places::keep)
 }
 
 /// The plan with a change, where it can be loaded.
@@ -227,5 +255,55 @@ fn of_memory() -> Vec<Mutant> {
                 output
             },
         },
+    ]
+}
+
+/// The right order, but for one event.
+macro_rules! moved_mutant {
+    ($name:expr, $event:pat => $places:ident $move:block) => {
+        order_mutant!($name, |$places, event| {
+            $places.keep(event);
+            if let $event = event $move
+        })
+    };
+}
+
+fn of_order() -> Vec<Mutant> {
+    vec![
+        moved_mutant!("the lower number is above", Event::Accepted { area, .. } => places {
+            places.numbers[area] = u64::try_from(area).expect("at most 8 areas");
+        }),
+        moved_mutant!("the last come is above", Event::Accepted { area, .. } => places {
+            places.numbers[area] = u64::MAX - places.numbers[area];
+        }),
+        moved_mutant!("a retry goes last", Event::Retried { area } => places {
+            places.numbers[area] = places.last();
+        }),
+        moved_mutant!("a retry goes first", Event::Retried { area } => places {
+            places.numbers[area] = 0;
+        }),
+        moved_mutant!("a cancelled job goes last", Event::Cancelled { area } => places {
+            places.numbers[area] = places.last();
+        }),
+        moved_mutant!("a refused call goes last", Event::Refused { area } => places {
+            places.numbers[area] = places.last();
+        }),
+        moved_mutant!("locks are first", Event::Accepted { area, is_lock: true } => places {
+            places.numbers[area] = 0;
+        }),
+        moved_mutant!("locks are last", Event::Accepted { area, is_lock: true } => places {
+            places.numbers[area] += u64::MAX / 2;
+        }),
+        moved_mutant!("with the end of a job the others go by number", Event::Ended => places {
+            for area in 0..places.numbers.len() {
+                places.numbers[area] = places.last();
+            }
+        }),
+        order_mutant!("an area keeps the place of its first job", |places, event| {
+            match event {
+                Event::Accepted { area, .. } if places.numbers[area] > 0 => {}
+                _ => places.keep(event),
+            }
+        }),
     ]
 }

@@ -44,7 +44,7 @@ returns : tie.Need-returns Inv-loop μ-loop
 returns c = omega arith
 
 add-at : tie.Need-add-at Inv-loop μ-loop
-add-at c = search needs
+add-at c = omega (arith, c .before .before .before .before .before .before .before .before .play-lines .ensures .1, c .before .before .before .before .before .before .before .before .before .before .before .before .before .before .before .before .before .before .before .good .1 .0)
 
 print-requires : tie.Need-print-requires Inv-loop μ-loop
 print-requires c κs = search needs

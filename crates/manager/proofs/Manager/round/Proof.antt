@@ -22,7 +22,7 @@ enum-told-2 c = search needs
 
 run-round-requires : tie.Need-run-round-requires
 unfolding roundNumberOf
-run-round-requires c κs = let asked = round-asked (c .before .before .before .before .before .before .before .before .before .before .before .before .before .args .self) (c .before .before .before .before .before .before .before .before .before .before .before .before .before .args .answers) (memoryOf (c .before .before .before .before .before .before .before .before .before .before .before .before .before .args .image .now) (c .before .before .before .before .before .before .before .before .before .before .before .before .before .args .store .now)) (sym (c .before .before .before .before .before .round-admission .ensures .0) ∙ ap admissionNumber (c .before .before .before .enum-told2 .given .1)) in (asked .0, asked .1, asked .2, c .before .before .before .before .before .round-admission .ensures .1 (asked .0))
+run-round-requires c κs = let asked = round-asked (c .before .before .before .before .before .before .before .before .before .before .before .before .before .before .args .self) (c .before .before .before .before .before .before .before .before .before .before .before .before .before .before .args .answers) (memoryOf (c .before .before .before .before .before .before .before .before .before .before .before .before .before .before .args .image .now) (c .before .before .before .before .before .before .before .before .before .before .before .before .before .before .args .store .now)) (sym (c .before .before .before .before .before .before .round-admission .ensures .0) ∙ ap admissionNumber (c .before .before .before .before .enum-told2 .given .1)) in (asked .0, asked .1, asked .2, c .before .before .before .before .before .before .round-admission .ensures .1 (asked .0))
 
 same-length : tie.Need-same-length
 same-length c = search needs
@@ -42,7 +42,7 @@ same-length-4 c = search needs
 
 returns-2 : tie.Need-returns-2
 unfolding roundNumberOf
-returns-2 c = (c .before .before .before .before .before .before .before .before .before .before .before .before .round-admission .ensures .0, (round-accepted (c .before .before .before .before .before .before .before .before .before .before .before .before .before .before .before .before .before .before .before .before .args .self) (c .before .before .before .before .before .before .before .before .before .before .before .before .before .before .before .before .before .before .before .before .args .answers) (memoryOf (c .before .before .before .before .before .before .before .before .before .before .before .before .before .before .before .before .before .before .before .before .args .image .now) (c .before .before .before .before .before .before .before .before .before .before .before .before .before .before .before .before .before .before .before .before .args .store .now)) (sym (c .before .before .before .before .before .before .before .before .before .before .before .before .round-admission .ensures .0) ∙ ap admissionNumber (c .before .before .before .before .before .before .before .before .before .before .enum-told2 .given .1)) (c .before .before .before .before .before .before .run-round .result .areas) (c .before .before .before .before .before .before .run-round .result .devices) (c .before .before .before .before .before .before .run-round .ensures .0) (c .before .before .before .before .before .before .run-round .ensures .1 .0), (c .before .before .before .before .before .before .run-round .ensures .1 .1 .0 ∙ ap (λ x. x .image) (round-memory-accepted (c .before .before .before .before .before .before .before .before .before .before .before .before .before .before .before .before .before .before .before .before .args .self) (c .before .before .before .before .before .before .before .before .before .before .before .before .before .before .before .before .before .before .before .before .args .answers) (memoryOf (c .before .before .before .before .before .before .before .before .before .before .before .before .before .before .before .before .before .before .before .before .args .image .now) (c .before .before .before .before .before .before .before .before .before .before .before .before .before .before .before .before .before .before .before .before .args .store .now)) (sym (c .before .before .before .before .before .before .before .before .before .before .before .before .round-admission .ensures .0) ∙ ap admissionNumber (c .before .before .before .before .before .before .before .before .before .before .enum-told2 .given .1))), c .before .before .before .before .before .before .run-round .ensures .1 .1 .1 ∙ ap (λ x. x .store) (round-memory-accepted (c .before .before .before .before .before .before .before .before .before .before .before .before .before .before .before .before .before .before .before .before .args .self) (c .before .before .before .before .before .before .before .before .before .before .before .before .before .before .before .before .before .before .before .before .args .answers) (memoryOf (c .before .before .before .before .before .before .before .before .before .before .before .before .before .before .before .before .before .before .before .before .args .image .now) (c .before .before .before .before .before .before .before .before .before .before .before .before .before .before .before .before .before .before .before .before .args .store .now)) (sym (c .before .before .before .before .before .before .before .before .before .before .before .before .round-admission .ensures .0) ∙ ap admissionNumber (c .before .before .before .before .before .before .before .before .before .before .enum-told2 .given .1))))))
+returns-2 c = (c .before .before .before .before .before .before .before .before .before .before .before .before .before .round-admission .ensures .0, (round-accepted (c .before .before .before .before .before .before .before .before .before .before .before .before .before .before .before .before .before .before .before .before .before .args .self) (c .before .before .before .before .before .before .before .before .before .before .before .before .before .before .before .before .before .before .before .before .before .args .answers) (memoryOf (c .before .before .before .before .before .before .before .before .before .before .before .before .before .before .before .before .before .before .before .before .before .args .image .now) (c .before .before .before .before .before .before .before .before .before .before .before .before .before .before .before .before .before .before .before .before .before .args .store .now)) (sym (c .before .before .before .before .before .before .before .before .before .before .before .before .before .round-admission .ensures .0) ∙ ap admissionNumber (c .before .before .before .before .before .before .before .before .before .before .before .enum-told2 .given .1)) (c .before .before .before .before .before .before .run-round .result .areas) (c .before .before .before .before .before .before .run-round .result .devices) (c .before .before .before .before .before .before .run-round .ensures .0) (c .before .before .before .before .before .before .run-round .ensures .1 .0), (c .before .before .before .before .before .before .run-round .ensures .1 .1 .0 ∙ ap (λ x. x .image) (round-memory-accepted (c .before .before .before .before .before .before .before .before .before .before .before .before .before .before .before .before .before .before .before .before .before .args .self) (c .before .before .before .before .before .before .before .before .before .before .before .before .before .before .before .before .before .before .before .before .before .args .answers) (memoryOf (c .before .before .before .before .before .before .before .before .before .before .before .before .before .before .before .before .before .before .before .before .before .args .image .now) (c .before .before .before .before .before .before .before .before .before .before .before .before .before .before .before .before .before .before .before .before .before .args .store .now)) (sym (c .before .before .before .before .before .before .before .before .before .before .before .before .before .round-admission .ensures .0) ∙ ap admissionNumber (c .before .before .before .before .before .before .before .before .before .before .before .enum-told2 .given .1))), c .before .before .before .before .before .before .run-round .ensures .1 .1 .1 ∙ ap (λ x. x .store) (round-memory-accepted (c .before .before .before .before .before .before .before .before .before .before .before .before .before .before .before .before .before .before .before .before .before .args .self) (c .before .before .before .before .before .before .before .before .before .before .before .before .before .before .before .before .before .before .before .before .before .args .answers) (memoryOf (c .before .before .before .before .before .before .before .before .before .before .before .before .before .before .before .before .before .before .before .before .before .args .image .now) (c .before .before .before .before .before .before .before .before .before .before .before .before .before .before .before .before .before .before .before .before .before .args .store .now)) (sym (c .before .before .before .before .before .before .before .before .before .before .before .before .before .round-admission .ensures .0) ∙ ap admissionNumber (c .before .before .before .before .before .before .before .before .before .before .before .enum-told2 .given .1))))))
 
 pub round-spec : {M : Type 1} → statement M
 round-spec =

@@ -10,7 +10,7 @@ use Rattle.manager.proofs.Manager.submit.Lts as lts
 use Rattle.machine.proofs.devices.begun_job.Reads as begun-job-reads
 use Rattle.machine.proofs.questions.job_admission.Reads as job-admission-reads
 use Rattle.machine.proofs.soundness.is_sound.Reads as is-sound-reads
-use Rattle.manager.proofs.Manager.with_area.Reads as with-area-reads
+use Rattle.manager.proofs.Manager.with_accepted.Reads as with-accepted-reads
 use Rattle.state.proofs.Area.fresh.Reads as fresh-reads
 
 is-sound-requires : tie.Need-is-sound-requires
@@ -37,8 +37,8 @@ begun-job-requires c κs =
 fresh-requires : tie.Need-fresh-requires
 fresh-requires c κs = search needs
 
-with-area-requires : tie.Need-with-area-requires
-with-area-requires c κs =
+with-accepted-requires : tie.Need-with-accepted-requires
+with-accepted-requires c κs =
     let m = c .before .before .before .before .before .before .before .before .before .args .self in
     let a = c .before .before .before .before .before .before .before .before .before .args .area in
     let t = c .before .before .before .before .before .before .before .before .before .args .task in
@@ -62,7 +62,7 @@ returns-2 c =
     let number = job-number m a _ (c .before .before .before .before .before .before .before .is-sound .ensures) _ t (c .before .before .before .before .before .before .job-admission .ensures .0) in
     let accepted = sym number ∙ ap admissionNumber (c .before .before .before .before .enum-told2 .given .1) in
     let first = c .before .before .before .before .before .before .job-admission .ensures .1 (ap admissionNumber (c .before .before .before .before .enum-told2 .given .1)) in
-    (number, c .with-area .ensures ∙ job-accepted m a t _ _ _ (c .before .before .before .begun-job .ensures) first (ap (λ x. x .waits) (c .before .before .fresh .ensures)) accepted)
+    (number, c .with-accepted .ensures ∙ job-accepted m a t _ _ _ (c .before .before .before .begun-job .ensures) first (ap (λ x. x .waits) (c .before .before .fresh .ensures)) accepted)
 
 pub submit-spec : {M : Type 1} → statement M
 submit-spec =
@@ -74,6 +74,6 @@ submit-spec =
     enum-told-2
     begun-job-requires
     fresh-requires
-    with-area-requires
+    with-accepted-requires
     returns
     returns-2)

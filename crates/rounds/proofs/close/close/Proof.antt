@@ -18,10 +18,10 @@ use Rattle.rounds.proofs.close.closed_area.Reads as closed-area-reads
 use Rattle.state.proofs.Area.fresh.Reads as fresh-reads
 
 abbrev Inv-loop : tie.InvT-loop
-Inv-loop records devices needs before after areas₀ a₀ areas a = (a ≤ 8) × (areas ≡ table 8 (areaAfter (needsLayout records 0 needs) before (coreIn after devices)) freshArea a)
+Inv-loop records ages devices needs before after areas₀ a₀ areas a = (a ≤ 8) × (areas ≡ table 8 (areaAfter (needsLayout records ages 0 needs) before (coreIn after devices)) freshArea a)
 
 abbrev μ-loop : tie.MeasureT-loop
-μ-loop records devices needs before after areas₀ a₀ areas a = 8 - a
+μ-loop records ages devices needs before after areas₀ a₀ areas a = 8 - a
 
 fresh-requires : tie.Need-fresh-requires Inv-loop μ-loop
 fresh-requires c κs = search needs
@@ -70,7 +70,7 @@ loop-less : tie.Need-loop-less Inv-loop μ-loop
 loop-less c = search needs
 
 loop-again : tie.Need-loop-again Inv-loop μ-loop
-loop-again c = (omega arith, (λ i. set (c .before .before .before .before .before .loop .inv .1 i) (c .before .before .before .before .before .loop .a) ((c .closed-area .ensures ∙ close-turn (c .before .before .before .before .before .before .before .args .records) (c .before .before .before .before .before .before .before .args .t2) (c .before .before .before .before .before .before .before .args .t3) (c .before .before .before .before .before .before .before .args .t4) (c .before .before .before .before .before .before .before .args .devices) (c .before .before .before .before .before .loop .a) (c .before .before .before .state-on .result) (c .before .before .before .state-on .ensures)) i)) ∙ sym (table-more 8 _ _ _))
+loop-again c = (omega arith, (λ i. set (c .before .before .before .before .before .loop .inv .1 i) (c .before .before .before .before .before .loop .a) ((c .closed-area .ensures ∙ close-turn (c .before .before .before .before .before .before .before .args .records) (c .before .before .before .before .before .before .before .args .ages) (c .before .before .before .before .before .before .before .args .t3) (c .before .before .before .before .before .before .before .args .t4) (c .before .before .before .before .before .before .before .args .t5) (c .before .before .before .before .before .before .before .args .devices) (c .before .before .before .before .before .loop .a) (c .before .before .before .state-on .result) (c .before .before .before .state-on .ensures)) i)) ∙ sym (table-more 8 _ _ _))
 
 returns : tie.Need-returns Inv-loop μ-loop
 unfolding areasAfter

@@ -11,10 +11,10 @@ use Rattle.rounds.proofs.picks.better_if.Reads as better-if-reads
 use Rattle.rounds.proofs.picks.is_ready.Reads as is-ready-reads
 
 abbrev Inv-loop : tie.InvT-loop
-Inv-loop count device records needs areas best₀ a₀ best a = (a ≤ count) × (best ≡ bestTo records (readyIn needs areas device) a)
+Inv-loop count device records ages needs areas best₀ a₀ best a = (a ≤ count) × (best ≡ bestTo records ages (readyIn needs areas device) a)
 
 abbrev μ-loop : tie.MeasureT-loop
-μ-loop count device records needs areas best₀ a₀ best a = count - a
+μ-loop count device records ages needs areas best₀ a₀ best a = count - a
 
 loop-holds : tie.Need-loop-holds Inv-loop μ-loop
 unfolding bestTo
@@ -41,6 +41,9 @@ is-ready-requires c κs = search needs
 cast-better-if : tie.Need-cast-better-if Inv-loop μ-loop
 cast-better-if c = search needs
 
+array-read-better-if : tie.Need-array-read-better-if Inv-loop μ-loop
+array-read-better-if c = search needs
+
 better-if-requires : tie.Need-better-if-requires Inv-loop μ-loop
 better-if-requires c κs = search needs
 
@@ -51,10 +54,10 @@ loop-less : tie.Need-loop-less Inv-loop μ-loop
 loop-less c = search needs
 
 loop-again : tie.Need-loop-again Inv-loop μ-loop
-loop-again c = (omega arith, best-turn (c .before .before .before .before .before .before .before .args .t1) (readyIn (c .before .before .before .before .before .before .before .args .t3) (c .before .before .before .before .before .before .before .args .t4) (c .before .before .before .before .before .before .before .args .device)) (c .before .before .before .before .before .before .loop .a) (c .before .is-ready .result) (c .before .before .before .before .before .before .loop .best) (c .better-if .result) (c .before .before .before .before .before .before .loop .inv .1) (c .before .is-ready .ensures) (c .better-if .ensures))
+loop-again c = (omega arith, best-turn (c .before .before .before .before .before .before .before .args .t1) (c .before .before .before .before .before .before .before .args .t2) (readyIn (c .before .before .before .before .before .before .before .args .t4) (c .before .before .before .before .before .before .before .args .t5) (c .before .before .before .before .before .before .before .args .device)) (c .before .before .before .before .before .before .loop .a) (omega arith) (c .before .is-ready .result) (c .before .before .before .before .before .before .loop .best) (c .better-if .result) (c .before .before .before .before .before .before .loop .inv .1) (c .before .is-ready .ensures) (c .better-if .ensures))
 
 returns : tie.Need-returns Inv-loop μ-loop
-returns c = c .before .loop .inv .1 ∙ ap (bestTo _ _) (omega arith)
+returns c = c .before .loop .inv .1 ∙ ap (bestTo _ _ _) (omega arith)
 
 pub best-area-spec : {M : Type 1} → statement M
 best-area-spec =
@@ -70,6 +73,7 @@ best-area-spec =
     array-read-is-ready
     is-ready-requires
     cast-better-if
+    array-read-better-if
     better-if-requires
     add-a
     loop-less

@@ -3,7 +3,7 @@ use Rattle.rounds.proofs.picks.better.Statement.{statement}
 use Rattle.rounds.proofs.picks.better.Tie as tie
 use Rattle.rounds.proofs.picks.better.Reads as reads
 use Rattle.rounds.proofs.picks.better.Lts as lts
-use Rattle.rounds.proofs.picks.ranks_above.Reads as ranks-above-reads
+use Rattle.jobs.proofs.ranks.ranks_above.Reads as ranks-above-reads
 
 enum-told : tie.Need-enum-told
 enum-told c = search needs

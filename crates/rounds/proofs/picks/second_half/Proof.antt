@@ -16,14 +16,14 @@ use Rattle.rounds.proofs.picks.pick_area.Reads as pick-area-reads
 use Rattle.rounds.proofs.picks.start_choice.Reads as start-choice-reads
 
 abbrev Inv-loop : tie.InvT-loop
-Inv-loop records count needs device-count areas₀ devices₀ d₀ areas devices d = (d ≤ device-count) × (length areas ≡ 8) × (length devices ≡ 4) × (coreIn areas devices ≡ secondHalf (needsLayout records count needs) d (coreIn areas₀ devices₀))
+Inv-loop records ages count needs device-count areas₀ devices₀ d₀ areas devices d = (d ≤ device-count) × (length areas ≡ 8) × (length devices ≡ 4) × (coreIn areas devices ≡ secondHalf (needsLayout records ages count needs) d (coreIn areas₀ devices₀))
 
 abbrev μ-loop : tie.MeasureT-loop
-μ-loop records count needs device-count areas₀ devices₀ d₀ areas devices d = device-count - d
+μ-loop records ages count needs device-count areas₀ devices₀ d₀ areas devices d = device-count - d
 
 loop-holds : tie.Need-loop-holds Inv-loop μ-loop
 unfolding secondHalf
-loop-holds c = (omega arith, c .good .1 .1 .1 .1 .0 .1 .0 .1, c .good .1 .1 .1 .1 .1 .0 .1 .0 .1, refl)
+loop-holds c = (omega arith, c .good .1 .1 .1 .1 .1 .0 .1 .0 .1, c .good .1 .1 .1 .1 .1 .1 .0 .1 .0 .1, refl)
 
 mul-device : tie.Need-mul-device Inv-loop μ-loop
 mul-device c = search needs
@@ -65,10 +65,10 @@ loop-less : tie.Need-loop-less Inv-loop μ-loop
 loop-less c = search needs
 
 loop-again : tie.Need-loop-again Inv-loop μ-loop
-loop-again c = (omega arith, rw length-set (c .before .before .before .before .before .before .before .before .loop .inv .1), rw length-set (c .before .before .before .before .before .before .before .before .loop .inv .2), second-turn (needsLayout (c .before .before .before .before .before .before .before .before .before .args .records) (c .before .before .before .before .before .before .before .before .before .args .count) (c .before .before .before .before .before .before .before .before .before .args .needs)) (c .before .before .before .before .before .before .before .before .loop .d) _ _ _ (c .before .before .before .before .before .before .before .before .loop .inv .3) (start-turn (c .before .before .before .before .before .before .before .before .loop .d) (c .before .before .before .before .before .before .before .before .loop .areas) (c .before .before .before .before .before .before .before .before .loop .devices) (c .before .before .before .before .before .before .before .before .loop .inv .1) (omega (arith, c .before .before .before .before .before .before .before .loop-test .taken, c .before .before .before .before .before .before .before .before .before .pre .1, c .before .before .before .before .before .before .before .before .loop .inv .2)) (c .before .before .before .before .before .before .before .before .before .args .records) (c .before .before .before .before .before .before .before .before .before .args .count) (c .before .before .before .before .before .before .before .before .before .pre .0) (c .before .before .before .before .before .before .before .before .before .args .needs) (c .before .before .before .before .before .pick-area .result) (c .before .before .before .before .before .pick-area .ensures) (c .before .before .before .before .chosen .result) (c .before .before .before .before .chosen .ensures .0) (c .before .before .start-choice .result) (c .before .before .start-choice .ensures)))
+loop-again c = (omega arith, rw length-set (c .before .before .before .before .before .before .before .before .loop .inv .1), rw length-set (c .before .before .before .before .before .before .before .before .loop .inv .2), second-turn (needsLayout (c .before .before .before .before .before .before .before .before .before .args .records) (c .before .before .before .before .before .before .before .before .before .args .ages) (c .before .before .before .before .before .before .before .before .before .args .count) (c .before .before .before .before .before .before .before .before .before .args .needs)) (c .before .before .before .before .before .before .before .before .loop .d) _ _ _ (c .before .before .before .before .before .before .before .before .loop .inv .3) (start-turn (c .before .before .before .before .before .before .before .before .loop .d) (c .before .before .before .before .before .before .before .before .loop .areas) (c .before .before .before .before .before .before .before .before .loop .devices) (c .before .before .before .before .before .before .before .before .loop .inv .1) (omega (arith, c .before .before .before .before .before .before .before .loop-test .taken, c .before .before .before .before .before .before .before .before .before .pre .1, c .before .before .before .before .before .before .before .before .loop .inv .2)) (c .before .before .before .before .before .before .before .before .before .args .records) (c .before .before .before .before .before .before .before .before .before .args .ages) (c .before .before .before .before .before .before .before .before .before .args .count) (c .before .before .before .before .before .before .before .before .before .pre .0) (c .before .before .before .before .before .before .before .before .before .args .needs) (c .before .before .before .before .before .pick-area .result) (c .before .before .before .before .before .pick-area .ensures) (c .before .before .before .before .chosen .result) (c .before .before .before .before .chosen .ensures .0) (c .before .before .start-choice .result) (c .before .before .start-choice .ensures)))
 
 returns : tie.Need-returns Inv-loop μ-loop
-returns c = c .before .loop .inv .3 ∙ ap (λ n. secondHalf (needsLayout (c .before .before .args .records) (c .before .before .args .count) (c .before .before .args .needs)) n (coreIn (c .before .before .args .t5) (c .before .before .args .t6))) (omega (arith, c .before .loop .inv .0, c .loop-test .left))
+returns c = c .before .loop .inv .3 ∙ ap (λ n. secondHalf (needsLayout (c .before .before .args .records) (c .before .before .args .ages) (c .before .before .args .count) (c .before .before .args .needs)) n (coreIn (c .before .before .args .t6) (c .before .before .args .t7))) (omega (arith, c .before .loop .inv .0, c .loop-test .left))
 
 pub second-half-spec : {M : Type 1} → statement M
 second-half-spec =

@@ -18,8 +18,8 @@ returns-2 c = let a = c .before .before .before .before .before .before .args in
 play-requires : tie.Need-play-requires
 play-requires c κs = search needs
 
-add-t22 : tie.Need-add-t22
-add-t22 c = search needs
+add-t23 : tie.Need-add-t23
+add-t23 c = search needs
 
 same-length : tie.Need-same-length
 same-length c = search needs
@@ -31,11 +31,11 @@ same-length-3 : tie.Need-same-length-3
 same-length-3 c = search needs
 
 returns-3 : tie.Need-returns-3
-returns-3 c = let a = c .before .before .before .before .before .before .before .before .before .before .before .before .before .before .before .before .before .before .before .args in
-    let p = c .before .before .before .before .before .before .before .before .before .play .ensures in
+returns-3 c = let a = c .before .before .before .before .before .before .before .before .before .before .before .before .before .before .before .before .before .before .before .before .args in
+    let p = c .before .before .before .before .before .before .before .before .before .before .play .ensures in
     let s = sessionOf (a .manager) (a .image .now) (a .store .now) (a .out .now) (a .end) (a .used) in (
       played-more (a .manager) _ (a .image .now) (a .store .now) _ _ (a .out .now) _ (a .rest .now) (a .end) _ (a .used) _ _ (p .0) (p .1 .0) (p .1 .1 .0) (p .1 .1 .1 .0) refl
-          ∙ last-line (a .rest .now) s (a .ends) (not-false _ (c .before .before .before .before .before .before .before .before .before .before .before .before .before .before .if1 .left)) (omega arith),
+          ∙ last-line (a .rest .now) s (a .ends) (not-false _ (c .before .before .before .before .before .before .before .before .before .before .before .before .before .before .before .if1 .left)) (omega arith),
       (omega (arith, p .1 .1 .1 .1, p .1 .1 .1 .0 .long), omega arith),
     )
 
@@ -46,7 +46,7 @@ play-last-spec =
     returns
     returns-2
     play-requires
-    add-t22
+    add-t23
     same-length
     same-length-2
     same-length-3

@@ -91,24 +91,24 @@ play-requires : tie.Need-play-requires Inv-loop μ-loop
 play-requires c κs = search needs
 
 add-at : tie.Need-add-at Inv-loop μ-loop
-add-at c = omega (arith, c .before .before .before .before .before .before .before .before .before .before .before .before .before .before .part-end .ensures .1, c .before .before .before .before .before .before .before .before .before .before .before .before .before .before .before .before .before .before .before .before .before .before .good .1 .0)
+add-at c = omega (arith, c .before .before .before .before .before .before .before .before .before .before .before .before .before .before .before .part-end .ensures .1, c .before .before .before .before .before .before .before .before .before .before .before .before .before .before .before .before .before .before .before .before .before .before .before .good .1 .0)
 
 loop-less : tie.Need-loop-less Inv-loop μ-loop
 loop-less c = search needs
 
 loop-again : tie.Need-loop-again Inv-loop μ-loop
-loop-again c = let l = c .before .before .before .before .before .before .before .before .before .before .before .before .before .before .before .before .before .loop in
-    let a = c .before .before .before .before .before .before .before .before .before .before .before .before .before .before .before .before .before .before .before .before .before .before .args in
-    let e = c .before .before .before .before .before .before .before .before .before .before .before .before .before .before .part-end in
-    let p = c .before .before .before .before .before .before .before .before .play .ensures in
+loop-again c = let l = c .before .before .before .before .before .before .before .before .before .before .before .before .before .before .before .before .before .before .loop in
+    let a = c .before .before .before .before .before .before .before .before .before .before .before .before .before .before .before .before .before .before .before .before .before .before .before .args in
+    let e = c .before .before .before .before .before .before .before .before .before .before .before .before .before .before .before .part-end in
+    let p = c .before .before .before .before .before .before .before .before .before .play .ensures in
     let line = word (a .input .now) (l .at) (e .result) in
     let long : length line ≡ e .result - l .at = word-length (a .input .now) (l .at) (e .result) (omega arith) (omega arith) in
     let here = cutFrom 10 (a .input .now) (l .at) in
     let there = cutFrom 10 (a .input .now) (e .result + 1) in (
       omega arith,
       omega (arith, p .1 .1 .1 .1, p .1 .1 .1 .0 .long),
-      omega (arith, c .before .before .before .before .before .before .before .image2 .given),
-      omega (arith, c .before .before .before .before .before .store2 .given),
+      omega (arith, c .before .before .before .before .before .before .before .before .image2 .given),
+      omega (arith, c .before .before .before .before .before .before .store2 .given),
       p .1 .1 .1 .0 .long ∙ l .inv .4,
       ap (playedLines (a .ends) (length (a .out .now)) there)
           (played-more (l .next) _ (l .image) (l .store) _ _ (l .out) _ line (l .end) _ (l .at) (e .result + 1) (length line + 1) (p .0) (p .1 .0) (p .1 .1 .0) (p .1 .1 .1 .0) (omega arith))
