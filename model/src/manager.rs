@@ -20,7 +20,7 @@ pub struct Manager {
     plan: Plan,
     areas: Vec<AreaState>,
     devices: Vec<DeviceState>,
-    /// Jobs and locks accepted so far. In 64 bits no list of calls brings it to a limit.
+    /// Jobs and locks accepted so far, far fewer than 64 bits can count.
     acceptances: u64,
 }
 
