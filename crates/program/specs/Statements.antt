@@ -1,5 +1,5 @@
--- document 00: the three demands of the program, and document 02, 01. Manager m is the one that a list of calls returned, history h the wait history of the same
--- calls; `answerOf`, `after` and `memoryAfter` (Run) are what the calls' contracts say of the next call.
+-- document 00: the three demands of the program; document 02: its requests. Manager m is the one that a list of calls returned, history h
+-- the wait history of the same calls; `answerOf`, `after` and `memoryAfter` (Run) are what the calls' contracts say of the next call.
 use Prim.Native.Nat.{ℕ, _+_, _≤_, _<_}
 use mathlib.Core.Bool.{Bool, true, false, not}
 use mathlib.Core.List.{List, []}
@@ -103,7 +103,7 @@ isAbove m = rankedOf m .outranks
 pub record FirstCome (p : Plan) (m : Manager) : Type 0 where
   -- "the larger priority is above"
   pub larger-above : (a b : ℕ) → priorityOf p b < priorityOf p a → isAbove m a b ≡ true
-  -- of two areas one is above the other
+  -- of two areas just one is above the other
   pub one-above : (a b : ℕ) → a ≢ b → isAbove m a b ≡ not (isAbove m b a)
   -- an accepted job, a lock request too, has every other pending job of its priority above it
   pub accepted-last : (a : ℕ) (t : Task) → let k = submit a t in answerOf k m ≡ 0 →

@@ -1,4 +1,4 @@
--- document 00: the three demands, after every list of calls
+-- document 00: the three demands; document 02: its requests; after every list of calls
 use Prim.Native.Nat.{ℕ, _+_, _≤_, _<_}
 use mathlib.Core.Bool.{Bool, true, false, not}
 use mathlib.Core.List.{List, [], _∷_}
@@ -117,7 +117,7 @@ isAbove p h = layoutAt p (h .ages) .outranks
 pub record FirstCome (p : Plan) (h : History) : Type 0 where
   -- "the larger priority is above"
   pub larger-above : (a b : ℕ) → priorityOf p b < priorityOf p a → isAbove p h a b ≡ true
-  -- of two areas one is above the other
+  -- of two areas just one is above the other
   pub one-above : (a b : ℕ) → a ≢ b → isAbove p h a b ≡ not (isAbove p h b a)
   -- an accepted job, a lock request too, has every other pending job of its priority above it
   pub accepted-last : (a : ℕ) (t : Task) → jobNumber p (h .core) a t ≡ 0 → let e = step p (submit a t) h in
