@@ -1,7 +1,6 @@
 -- Areas of one priority are ranked by acceptance: the rank of the manager is the history's.
 use Prim.Native.Nat.{ℕ}
-use mathlib.Core.Bool.{true}
-use mathlib.Core.Path.{_≡_, sym, ap, subst₂, _∙_}
+use mathlib.Core.Path.{_≡_, sym, ap, _∙_}
 use Rattle.manager.specs.Calls.{coreOf}
 use Rattle.manager.specs.declared.Manager.{Manager}
 use Rattle.rules.specs.History.{Call, submit, History, step}

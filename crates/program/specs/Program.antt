@@ -3,7 +3,6 @@ use Prim.Native.Nat.{ℕ}
 use mathlib.Core.Path.{sym, ap, _∙_}
 use borrow.Author.Tests.{ne-eqb}
 use Rattle.machine.specs.SoundLaws.{zero-unsound}
-use Rattle.manager.specs.Calls.{coreOf}
 use Rattle.manager.specs.Load.{freshManager, zeroManager, loadedManager}
 use Rattle.manager.specs.declared.Manager.{Manager}
 use Rattle.plan.specs.declared.records.Plan.{Plan}

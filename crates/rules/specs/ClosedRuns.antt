@@ -5,7 +5,7 @@ use mathlib.Core.List.{List, [], _∷_, _++_}
 use lib.ListN.{replicate}
 use Rattle.memory.specs.declared.DeviceAnswer.the-variants.{Pending, Done, Failed}
 use Rattle.memory.specs.declared.JobType.{JobType}
-use Rattle.memory.specs.declared.JobType.the-variants.{Write, Read, Compare, Erase, BlankCheck, Lock}
+use Rattle.memory.specs.declared.JobType.the-variants.{Write, Compare, Erase, BlankCheck, Lock}
 use Rattle.plan.specs.Examples.{planT, device, area, subArea, sizes}
 use Rattle.rules.specs.Session.{Entry, number, devices, info, Line, call, answers, nothing, locked, request}
 use Rattle.arith.specs.Bounded as Bounded

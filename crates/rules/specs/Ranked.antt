@@ -3,7 +3,7 @@ use Prim.Native.Nat.{ℕ}
 use mathlib.Core.Bool.{Bool, true, false, true≢false}
 use mathlib.Core.Path.{_≡_, refl, sym, ap, _∙_}
 use lib.Dec.{eqb}
-use Rattle.arith.specs.Cases.{pick, by-bool, by-eqb}
+use Rattle.arith.specs.Cases.{by-bool, by-eqb}
 use Rattle.memory.specs.declared.Task.{Task}
 use Rattle.plan.specs.declared.records.Plan.{Plan}
 use Rattle.state.specs.declared.DeviceState.{DeviceState}
@@ -13,10 +13,10 @@ use Rattle.rules.specs.Close.{TallyFits}
 use Rattle.rules.specs.History.{Tally}
 use Rattle.rules.specs.Layout.{Layout, priorityOf, layoutOf, ranked, layoutAt}
 use Rattle.rules.specs.Machine.{Core, isPending, need, behind, waitOn, waitOf, isOwn, cancelIf, cancel}
-use Rattle.rules.specs.Potential.{Left, AtMost, toCome, laterLeft, leftOf, left-idle}
+use Rattle.rules.specs.Potential.{toCome, laterLeft, leftOf, left-idle}
 use Rattle.rules.specs.RankLaws.{AgesApart, ranks-kept}
 use Rattle.rules.specs.Ranks.{agesAfter}
-use Rattle.rules.specs.Reachable.{Running, DeviceFits, JobFits, Reachable, leftAt}
+use Rattle.rules.specs.Reachable.{DeviceFits, Reachable, leftAt}
 
 -- whether a wait is own does not depend on ranks
 own-behind : (p : Layout) (a b : ℕ) → isOwn (behind p a b) ≡ eqb b a

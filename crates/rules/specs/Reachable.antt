@@ -1,7 +1,7 @@
 -- What holds of every state that calls lead to, and what a part of a call leaves of it.
 use Prim.Native.Nat.{ℕ, _≤_, _<_}
 use mathlib.Core.Bool.{Bool, true, false}
-use mathlib.Core.Path.{_≡_, subst, _∙_}
+use mathlib.Core.Path.{_≡_, _∙_}
 use native.Mathlib.Omega.{arith}
 use Rattle.memory.specs.declared.Task.{Task}
 use Rattle.segment.specs.Segments.{isLock}

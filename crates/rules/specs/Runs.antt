@@ -1,8 +1,8 @@
 -- Every call, and every list of calls.
 use Prim.Native.Nat.{ℕ, _<_}
-use mathlib.Core.Bool.{Bool, true, false≢true}
+use mathlib.Core.Bool.{true, false≢true}
 use mathlib.Core.List.{List, [], _∷_}
-use mathlib.Core.Path.{_≡_, refl, sym, subst, _∙_}
+use mathlib.Core.Path.{_≡_, refl, subst}
 use native.Mathlib.Omega.{arith}
 use lib.Dec.{eqb}
 use Rattle.arith.specs.Cases.{pick, by-eqb}
@@ -15,7 +15,7 @@ use Rattle.rules.specs.Calls.{cancel-passes, release-passes, begin-reach
 use Rattle.rules.specs.Close.{TallyFits, tally-stays, halves, close-fits}
 use Rattle.rules.specs.History.{Call, submit, releases, cancels, asks, round, History, withCore, lent, start, roundOf, submitted, step, run}
 use Rattle.rules.specs.Laws.{Laws}
-use Rattle.rules.specs.Layout.{Layout, layoutOf, layoutAt}
+use Rattle.rules.specs.Layout.{layoutOf, layoutAt}
 use Rattle.rules.specs.RankLaws.{AgesApart, ages-apart}
 use Rattle.rules.specs.Ranks.{agesAfter}
 use Rattle.rules.specs.Ranked.{cancel-ranked, reranked, tally-ranked, waits-kept}
