@@ -13,8 +13,9 @@ use Rattle.memory.specs.declared.Task.{Task}
 use Rattle.plan.specs.declared.records.Plan.{Plan}
 use Rattle.rules.specs.Admission.{holdsLock}
 use Rattle.rules.specs.Layout.{Layout, layoutOf}
-use Rattle.rules.specs.Machine.{Core, due, need, begunWith, begun, cancelled, ended, isOwn, behind, waitOn, waitOf, cancel}
+use Rattle.rules.specs.Machine.{Core, due, need, begunWith, begun, cancelled, ended, isOwn, waitOn, waitOf, cancel}
 use Rattle.rules.specs.Queries.{noRequest, requestOn}
+use Rattle.rules.specs.Ranked.{own-behind}
 use Rattle.segment.specs.Segments.{segmentAt}
 use Rattle.segment.specs.declared.Segment.{Segment}
 use Rattle.state.specs.declared.Area.{Area}
@@ -33,10 +34,9 @@ runsFor a (LockedFor b) = false
 
 -- that is the wait "own" of an area that needs the device
 pub own-runs : (p : Layout) (a : ℕ) (x : DeviceState) → runsFor a x ≡ isOwn (waitOn p a x)
-unfolding behind
 own-runs p a Free = refl
 own-runs p a (LockedFor b) = refl
-own-runs p a (Runs b polls) = by-bool (eqb b a) (λ e. rw e) (λ e. rw e (by-bool (p .outranks b a) (λ f. rw f) (λ f. rw f)))
+own-runs p a (Runs b polls) = sym (own-behind p a b)
 
 -- a lock is held on a device that the manager has
 pub lock-known : (devices : List Device) (d a n : ℕ) → length devices ≡ n → holdsLock a (stateIn devices d) ≡ true → d < n

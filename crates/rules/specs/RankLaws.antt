@@ -10,7 +10,7 @@ use Rattle.arith.specs.Cases.{by-bool, by-ltb, by-eqb}
 use Rattle.rules.specs.Ranks.{older, agesAfter, rankAbove, ranksAbove}
 
 -- a rank above another: no smaller a priority, and of equal ones the greater age
-pub rank-plain : (p x q y : ℕ) → (rankAbove p x q y ≡ true) ↔ ((q ≤ p) × (q ≡ p → y < x))
+rank-plain : (p x q y : ℕ) → (rankAbove p x q y ≡ true) ↔ ((q ≤ p) × (q ≡ p → y < x))
 unfolding rankAbove
 rank-plain p x q y =
     by-ltb q p (λ e l. rw e (λ _. (omega arith, λ z. absurd (omega arith)), λ _. refl)) λ e l.

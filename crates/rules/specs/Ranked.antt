@@ -19,12 +19,12 @@ use Rattle.rules.specs.Ranks.{agesAfter}
 use Rattle.rules.specs.Reachable.{DeviceFits, Reachable, leftAt}
 
 -- whether a wait is own does not depend on ranks
-own-behind : (p : Layout) (a b : ℕ) → isOwn (behind p a b) ≡ eqb b a
+pub own-behind : (p : Layout) (a b : ℕ) → isOwn (behind p a b) ≡ eqb b a
 unfolding behind
 own-behind p a b = by-eqb b a (λ e _. rw e) (λ e _. rw e (by-bool (p .outranks b a) (λ f. rw f) (λ f. rw f)))
 
 module _ (p : Layout) (r s : ℕ → ℕ → Bool) where
-  pub own-ranked : (a : ℕ) (x : DeviceState) → isOwn (waitOn (ranked r p) a x) ≡ isOwn (waitOn (ranked s p) a x)
+  own-ranked : (a : ℕ) (x : DeviceState) → isOwn (waitOn (ranked r p) a x) ≡ isOwn (waitOn (ranked s p) a x)
   own-ranked a Free = refl
   own-ranked a (LockedFor b) = refl
   own-ranked a (Runs b q) = own-behind (ranked r p) a b ∙ sym (own-behind (ranked s p) a b)
