@@ -11,9 +11,9 @@ le() {
     done
 }
 
-# device START LENGTH PATIENCE
+# device START LENGTH PATIENCE [MARK]: DS for a chip that can suspend
 device() {
-    printf 'DV'
+    printf '%s' "${4:-DV}"
     le "$1" 4; le "$2" 4; le "$3" 2
 }
 

@@ -30,6 +30,22 @@ plan_four() {
     sub_area 3 3 192 32 64 8 16 2 8 2 0 2
 }
 
+# a chip that can suspend and one that cannot: areas 0, 1 and 2 on the first, areas 3 and 4 as 0 and 1 on the second
+plan_both() {
+    device 0 64 3 DS
+    device 64 32 3
+    area 1 0 0 8
+    area 5 256 8 8
+    area 9 512 16 8
+    area 1 768 24 8
+    area 5 1024 32 8
+    sub_area 0 0 0 16 16 4 4 1 8 1 0 0
+    sub_area 1 0 16 16 16 4 4 1 4 1 1 0
+    sub_area 2 0 32 16 16 4 4 1 8 2 0 0
+    sub_area 3 1 64 16 16 4 4 1 8 1 0 0
+    sub_area 4 1 80 16 16 4 4 1 4 1 1 0
+}
+
 # keep FILE: writes standard input to the file, or compares the two
 keep() {
     if [ "$mode" = --check ]; then
@@ -47,6 +63,7 @@ plan_t 64 2 1 5 | keep ../crates/bench_lines/data/plan.bin
 plan_t 64 2 1 5 | keep ../crates/bench_line_length/data/plan.bin
 plan_t 64 2 3 3 | keep ../crates/bench_equals/data/plan.bin
 plan_four | keep ../crates/bench_devices/data/plan.bin
+plan_both | keep ../crates/bench_suspends/data/plan.bin
 plan_t 64 0 1 5 | keep ../crates/bench_refused/data/plan.bin
 plan_t 65537 2 1 5 | keep ../crates/bench_sum/data/plan.bin
 head -c 4097 /dev/zero | keep ../crates/bench_long/data/plan.bin

@@ -1,15 +1,19 @@
 //! What sessions tried, told from their lines and what they printed: shows, and lets tests assert,
-//! that no kind of line, refusal, answer or result went untried, nor the order of acceptance.
+//! that no kind of line, refusal, answer or result went untried, nor the order of acceptance, nor the
+//! erases that give way.
 
 mod equals;
+mod follower;
+mod suspensions;
 
 pub use equals::Equals;
+pub use suspensions::Suspension;
 
 use crate::plan::{self, Plan};
 use crate::plans::{equals_meet, priority_count};
 use crate::script::Script;
 use crate::session::{BENCH_SUM_LIMIT, LINE_LIMIT, PLAN_LIMIT};
-use equals::Follower;
+use follower::Follower;
 use std::collections::BTreeMap;
 use std::fmt;
 
@@ -21,6 +25,9 @@ pub enum Kind {
     /// Every area had more than 300 jobs and locks accepted.
     Busy,
     Equals(Equals),
+    /// Which marks the plan's devices have.
+    Marks(Marks),
+    Suspension(Suspension),
     /// A line of this type answered with this number; 0 is accepted.
     Line(u8, u8),
     /// Info of a job with this result.
@@ -47,6 +54,14 @@ pub enum Priorities {
     One,
     Two,
     More,
+}
+
+/// Of the devices none can suspend, some or all.
+#[derive(Clone, Copy, Debug, PartialEq, Eq, PartialOrd, Ord)]
+pub enum Marks {
+    NoneSuspends,
+    SomeSuspend,
+    AllSuspend,
 }
 
 #[derive(Clone, Copy, Debug, PartialEq, Eq, PartialOrd, Ord)]
@@ -108,6 +123,8 @@ pub fn all_kinds() -> Vec<Kind> {
     ];
     kinds.extend([Priorities::One, Priorities::Two, Priorities::More].map(Kind::Priorities));
     kinds.extend(Equals::ALL.map(Kind::Equals));
+    kinds.extend([Marks::NoneSuspends, Marks::SomeSuspend, Marks::AllSuspend].map(Kind::Marks));
+    kinds.extend(Suspension::ALL.map(Kind::Suspension));
     kinds.extend((1..=8).map(|number| Kind::Plan(PlanAnswer::Refused(number))));
     kinds.extend((0..=3).map(Kind::Result));
     kinds.extend([Count::Own, Count::Above, Count::Below, Count::Locked].map(Kind::Wait));
@@ -178,7 +195,7 @@ impl Coverage {
         if answer != PlanAnswer::Taken {
             return;
         }
-        self.add_order(script, output);
+        self.add_jobs(script, output);
         // What each device showed in the last round.
         let mut shown: Vec<Vec<u8>> = Vec::new();
         for (line, answer) in script.lines.iter().zip(output.split(|byte| *byte == b'\n')) {
@@ -194,9 +211,11 @@ impl Coverage {
         }
     }
 
-    /// What a session on a plan that is taken tried of the order of acceptance.
-    fn add_order(&mut self, script: &Script, output: &[u8]) {
+    /// What a session on a plan that is taken tried of the order of acceptance and of erases that
+    /// give way.
+    fn add_jobs(&mut self, script: &Script, output: &[u8]) {
         let plan = plan::load(&script.plan).expect("the plan is taken");
+        self.add_kind(Kind::Marks(marks(&plan)));
         if equals_meet(&plan) {
             self.add_kind(Kind::Priorities(priorities(&plan)));
         }
@@ -204,7 +223,7 @@ impl Coverage {
         for (line, answer) in script.lines.iter().zip(output.split(|byte| *byte == b'\n')) {
             if answer != b"?" {
                 let came_up = follower.line(line, answer);
-                came_up.into_iter().for_each(|equals| self.add_kind(Kind::Equals(equals)));
+                came_up.into_iter().for_each(|kind| self.add_kind(kind));
             }
         }
         if follower.fewest_acceptances() > 300 {
@@ -282,6 +301,15 @@ fn priorities(plan: &Plan) -> Priorities {
         1 => Priorities::One,
         2 => Priorities::Two,
         _ => Priorities::More,
+    }
+}
+
+fn marks(plan: &Plan) -> Marks {
+    let can_suspend = |device: &plan::Device| device.can_suspend;
+    match (plan.devices.iter().any(can_suspend), plan.devices.iter().all(can_suspend)) {
+        (false, _) => Marks::NoneSuspends,
+        (true, false) => Marks::SomeSuspend,
+        (true, true) => Marks::AllSuspend,
     }
 }
 

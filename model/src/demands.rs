@@ -5,14 +5,16 @@
 //! asked before the manager is called.
 
 mod memory;
+mod suspensions;
 mod tally;
 
+pub use suspensions::Suspensions;
 pub use tally::Tally;
 
 use crate::admission;
 use crate::calls::{Call, Query};
 use crate::jobs::{Answer, JobResult};
-use crate::manager::{DeviceState, JobInfo, Manager, RequestInfo, Waits};
+use crate::manager::{DeviceState, JobInfo, Manager, Request, RequestInfo, Waits};
 use crate::plan::Plan;
 use crate::plans::encode;
 use crate::sessions::{Memory, Step};
@@ -87,8 +89,10 @@ impl Trial {
             tally.add_entry(before.entry(area), self.book.entry(area), &self.results[area]);
             self.note_bounds(area, before.entry(area), tally);
         }
+        tally.suspensions.add_step(&self.plan, &before, &self.book);
         if !fates.is_empty() {
             tally.add_equals(&self.plan, &before, &self.book);
+            tally.suspensions.add_round(&self.plan, &before, &self.book);
         }
         self.check_devices()?;
         self.check_order()
@@ -187,6 +191,7 @@ impl Trial {
             let own = (entry.numbers.own, self.book.own_bound(work));
             let below = (entry.numbers.below, self.book.below_bound(work));
             tally.add_bounds(own, below);
+            tally.suspensions.add_below(below.0, self.book.single_below_bound(work), below.1);
         }
     }
 
@@ -275,9 +280,10 @@ impl Trial {
         ensure(order == owed, || format!("the order is {order:?}, in the book {owed:?}"))
     }
 
-    /// The manager's view of every device is the book's.
+    /// The manager's view of every device is the book's, with the erase that is suspended there.
     fn check_devices(&self) -> Result<(), Failure> {
         for device in 0..self.plan.devices.len() {
+            self.check_suspended(device)?;
             let (state, station) = (self.manager.device(device), self.book.station(device));
             let is_same = match (state, station) {
                 (DeviceState::Free, Station::Nothing) => true,
@@ -291,5 +297,14 @@ impl Trial {
             ensure(is_same, || format!("device {device}: {state:?}, in the book {station:?}"))?;
         }
         Ok(())
+    }
+
+    fn check_suspended(&self, device: usize) -> Result<(), Failure> {
+        let erase = self.manager.suspended(device);
+        let fields = |erase: Request| (erase.area, Some(erase.piece), u64::from(erase.polls));
+        let owed = self.book.suspended_on(device);
+        let owed = owed.map(|(area, polls)| (area, self.book.entry(area).next_piece(), polls));
+        let is_same = erase.map(fields) == owed;
+        ensure(is_same, || format!("device {device} suspends {erase:?}, in the book {owed:?}"))
     }
 }

@@ -1,5 +1,5 @@
-//! The memory access manager of document 01 with Req 01 of document 02: jobs, locks, releases,
-//! cancels, rounds and queries over a loaded plan.
+//! The memory access manager of document 01 with Req 01 and 02 of document 02: jobs, locks,
+//! releases, cancels, rounds and queries over a loaded plan.
 //!
 //! Every call answers with the number of the first question answered "no", 0 if there is none; a
 //! refused call changes nothing. A manager only comes from an accepted load, so question 9 never
@@ -20,6 +20,9 @@ pub struct Manager {
     plan: Plan,
     areas: Vec<AreaState>,
     devices: Vec<DeviceState>,
+    /// For each device its suspended erase, with the polls that it had: "One erase is parked per
+    /// chip".
+    suspended: Vec<Option<Request>>,
     /// Jobs and locks accepted so far, far fewer than 64 bits can count.
     acceptances: u64,
 }
@@ -149,7 +152,8 @@ impl Manager {
         let plan = plan::load(bytes)?;
         let areas = vec![AreaState::fresh(); plan.areas.len()];
         let devices = vec![DeviceState::Free; plan.devices.len()];
-        Ok(Manager { plan, areas, devices, acceptances: 0 })
+        let suspended = vec![None; plan.devices.len()];
+        Ok(Manager { plan, areas, devices, suspended, acceptances: 0 })
     }
 
     pub fn plan(&self) -> &Plan {
@@ -159,6 +163,17 @@ impl Manager {
     /// What a device does: the bench prints it.
     pub fn device(&self, device: usize) -> DeviceState {
         self.devices[device]
+    }
+
+    /// The erase that waits on a device for its resume.
+    pub fn suspended(&self, device: usize) -> Option<Request> {
+        self.suspended[device]
+    }
+
+    /// What a device does and what is suspended on it: only for tests that make a manager wrong.
+    pub fn set_device(&mut self, device: usize, state: DeviceState, suspended: Option<Request>) {
+        self.devices[device] = state;
+        self.suspended[device] = suspended;
     }
 
     /// The pending areas, the earliest accepted first.
@@ -205,14 +220,14 @@ impl Manager {
     }
 
     /// "A cancel ends a job without a running request immediately, result 3. With one running, the
-    /// area stays pending."
+    /// area stays pending." And "a cancelled parked erase ends when its resumed request ends".
     pub fn cancel(&mut self, area: u32) -> u8 {
         match admission::cancel(&self.plan, self, area) {
             Ok(area) => {
-                let is_running = self.running_request(area).is_some();
+                let has_request = self.running_request(area).is_some() || self.is_suspended(area);
                 let state = &mut self.areas[area];
                 state.is_cancelled = true;
-                if !is_running {
+                if !has_request {
                     state.end(JobResult::Cancelled);
                 }
                 0
@@ -262,5 +277,10 @@ impl Manager {
             DeviceState::Running(request) if request.area == area => Some(*request),
             _ => None,
         })
+    }
+
+    /// Is the area's request a suspended erase?
+    fn is_suspended(&self, area: usize) -> bool {
+        self.suspended.iter().flatten().any(|erase| erase.area == area)
     }
 }

@@ -3,7 +3,8 @@
 //!
 //! The limits are written out here, not taken from the model.
 
-use crate::plan::{Area, Device, Plan, SubArea, AREA_MARK, DEVICE_MARK, SUB_AREA_MARK};
+use crate::plan::{Area, Device, Plan, SubArea};
+use crate::plan::{AREA_MARK, DEVICE_MARK, SUB_AREA_MARK, SUSPENDING_DEVICE_MARK};
 use crate::plans::{encode, encode_records, largest, plan_t, raw_records, regular, RawRecord};
 
 pub struct Named {
@@ -19,6 +20,8 @@ pub fn all() -> Vec<Named> {
         papers_plans(),
         question_1_records(),
         question_1_order(),
+        question_1_marks(),
+        suspending_devices(),
         question_2(),
         question_3(),
         question_4_ends(),
@@ -89,7 +92,7 @@ fn joined(lengths: &[u32]) -> Vec<Device> {
     let mut start = 0u32;
     let mut devices = Vec::new();
     for &length in lengths {
-        devices.push(Device { start, length, patience: 2 });
+        devices.push(Device { start, length, patience: 2, can_suspend: false });
         start = start.wrapping_add(length);
     }
     devices
@@ -126,15 +129,18 @@ pub fn papers_plans() -> Vec<Named> {
     ]
 }
 
+/// The plan with this mark on one of its records.
+fn marked(plan: &Plan, record: usize, mark: [u8; 2]) -> Vec<u8> {
+    let mut records = raw_records(plan);
+    records[record].mark = mark;
+    encode_records(&records)
+}
+
 pub fn question_1_records() -> Vec<Named> {
     let bytes = encode(&plan_t());
     let cut = |length: usize| bytes[..length].to_vec();
     let padded = |end: &[u8]| [&bytes, end].concat();
-    let with_mark = |record: usize, mark: [u8; 2]| {
-        let mut records = raw_records(&plan_t());
-        records[record].mark = mark;
-        encode_records(&records)
-    };
+    let with_mark = |record: usize, mark: [u8; 2]| marked(&plan_t(), record, mark);
     vec![
         of_bytes("last byte cut", 1, cut(bytes.len() - 1)),
         of_bytes("last sub-area cut to its mark", 1, cut(bytes.len() - 36)),
@@ -155,9 +161,50 @@ pub fn question_1_records() -> Vec<Named> {
     ]
 }
 
+/// The mark of a device that can suspend, its neighbours, and the marks of requests not landed yet.
+pub fn question_1_marks() -> Vec<Named> {
+    let t = |record: usize, mark: [u8; 2]| marked(&plan_t(), record, mark);
+    let largest = |record: usize| marked(&largest(), record, [0x44, 0x53]);
+    vec![
+        of_bytes("device mark 44 53", 0, t(0, [0x44, 0x53])),
+        of_bytes("device mark 44 53 on the first of four devices", 0, largest(0)),
+        of_bytes("device mark 44 53 on the last of four devices", 0, largest(3)),
+        of_bytes("device mark 44 52", 1, t(0, [0x44, 0x52])),
+        of_bytes("device mark 44 54", 1, t(0, [0x44, 0x54])),
+        of_bytes("device mark 44 46", 1, t(0, [0x44, 0x46])),
+        of_bytes("device mark 44 55", 1, t(0, [0x44, 0x55])),
+        of_bytes("device mark 53 44", 1, t(0, [0x53, 0x44])),
+        of_bytes("device mark 43 53", 1, t(0, [0x43, 0x53])),
+        of_bytes("area mark 41 53", 1, t(2, [0x41, 0x53])),
+        of_bytes("area mark 41 4C", 1, t(2, [0x41, 0x4C])),
+        of_bytes("sub-area mark 53 53", 1, t(4, [0x53, 0x53])),
+        of_bytes("area with mark 44 53", 1, t(1, SUSPENDING_DEVICE_MARK)),
+        of_bytes("sub-area with mark 44 53", 1, t(3, SUSPENDING_DEVICE_MARK)),
+        of_bytes("mark 44 53 and nothing else", 1, SUSPENDING_DEVICE_MARK.to_vec()),
+    ]
+}
+
+/// A device that can suspend answers questions 2 and 3 as any other.
+pub fn suspending_devices() -> Vec<Named> {
+    vec![
+        t("a device that can suspend, patience 0", 3, |p| {
+            (p.devices[0].can_suspend, p.devices[0].patience) = (true, 0);
+        }),
+        two_devices("the second of two can suspend", 0, |p| p.devices[1].can_suspend = true),
+        two_devices("the second can suspend and starts one more", 3, |p| {
+            (p.devices[1].can_suspend, p.devices[1].start) = (true, 33);
+        }),
+        t("five devices that can suspend", 2, |p| {
+            p.devices = joined(&[64, 1, 1, 1, 1]);
+            p.devices.iter_mut().for_each(|device| device.can_suspend = true);
+        }),
+    ]
+}
+
 pub fn question_1_order() -> Vec<Named> {
     let records = raw_records(&plan_t());
     let (device, area, sub_area) = (&records[0], &records[1], &records[3]);
+    let suspending = RawRecord { mark: SUSPENDING_DEVICE_MARK, ..device.clone() };
     let of_records = |name: &str, number: u8, records: &[&RawRecord]| {
         let bytes = records.iter().flat_map(|record| record.bytes()).collect();
         of_bytes(name, number, bytes)
@@ -165,6 +212,12 @@ pub fn question_1_order() -> Vec<Named> {
     vec![
         of_records("one record of each kind", 0, &[device, area, sub_area]),
         of_records("area before device", 1, &[area, device, sub_area]),
+        of_records("area before a device that can suspend", 1, &[area, &suspending, sub_area]),
+        of_records(
+            "a device that can suspend behind all",
+            1,
+            &[device, area, sub_area, &suspending],
+        ),
         of_records("sub-area before area", 1, &[device, sub_area, area]),
         of_records("sub-area before device", 1, &[sub_area, device]),
         of_records("device behind the areas", 1, &[device, area, device, sub_area]),

@@ -1,11 +1,13 @@
-//! Plans: the records of document 01, "The plan", and loading, questions 1 to 8 of "Questions at
-//! the door".
+//! Plans: the records of document 01, "The plan", with the device mark of Req 02 of document 02, and
+//! loading, questions 1 to 8 of "Questions at the door".
 //!
 //! Sums and products of fields are exact: they are taken in 64 or 128 bits, where none can wrap.
 
 use std::ops::Range;
 
 pub const DEVICE_MARK: [u8; 2] = [0x44, 0x56];
+/// "A device record with mark hex 44 53, laid out as before, means the chip can pause."
+pub const SUSPENDING_DEVICE_MARK: [u8; 2] = [0x44, 0x53];
 pub const AREA_MARK: [u8; 2] = [0x41, 0x52];
 pub const SUB_AREA_MARK: [u8; 2] = [0x53, 0x42];
 
@@ -23,6 +25,8 @@ pub struct Device {
     pub start: u32,
     pub length: u32,
     pub patience: u16,
+    /// Can a running erase give way to another request? The mark tells.
+    pub can_suspend: bool,
 }
 
 #[derive(Clone, Copy, Debug, PartialEq, Eq)]
@@ -132,8 +136,10 @@ pub fn whole_records(bytes: &[u8]) -> Option<Plan> {
     let mut plan = Plan::default();
     while !reader.rest.is_empty() {
         match reader.take()? {
-            DEVICE_MARK if plan.areas.is_empty() && plan.sub_areas.is_empty() => {
-                plan.devices.push(reader.device()?)
+            mark @ (DEVICE_MARK | SUSPENDING_DEVICE_MARK)
+                if plan.areas.is_empty() && plan.sub_areas.is_empty() =>
+            {
+                plan.devices.push(reader.device(mark == SUSPENDING_DEVICE_MARK)?)
             }
             AREA_MARK if plan.sub_areas.is_empty() => plan.areas.push(reader.area()?),
             SUB_AREA_MARK => plan.sub_areas.push(reader.sub_area()?),
@@ -262,8 +268,8 @@ impl Reader<'_> {
     }
 
     /// "Device: physical start 4, length 4, patience 2."
-    fn device(&mut self) -> Option<Device> {
-        Some(Device { start: self.u32()?, length: self.u32()?, patience: self.u16()? })
+    fn device(&mut self, can_suspend: bool) -> Option<Device> {
+        Some(Device { start: self.u32()?, length: self.u32()?, patience: self.u16()?, can_suspend })
     }
 
     /// "Area: priority 2, logical start 4, window start 4, window length 4."

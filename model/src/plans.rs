@@ -13,7 +13,8 @@ pub use small::{crowded, full, small};
 pub use valid::valid;
 pub use wounds::{byte_changes, cuts, field_changes, wounded};
 
-use crate::plan::{Area, Device, Plan, SubArea, AREA_MARK, DEVICE_MARK, SUB_AREA_MARK};
+use crate::plan::{Area, Device, Plan, SubArea};
+use crate::plan::{AREA_MARK, DEVICE_MARK, SUB_AREA_MARK, SUSPENDING_DEVICE_MARK};
 use crate::random::Random;
 use std::collections::BTreeSet;
 
@@ -54,7 +55,7 @@ impl RawRecord {
 impl From<&Device> for RawRecord {
     fn from(device: &Device) -> Self {
         RawRecord {
-            mark: DEVICE_MARK,
+            mark: if device.can_suspend { SUSPENDING_DEVICE_MARK } else { DEVICE_MARK },
             fields: vec![
                 Field::new(device.start, 4),
                 Field::new(device.length, 4),
@@ -148,7 +149,7 @@ pub fn plan_t() -> Plan {
         window_length: 16,
     };
     Plan {
-        devices: vec![Device { start: 0, length: 64, patience: 2 }],
+        devices: vec![Device { start: 0, length: 64, patience: 2, can_suspend: false }],
         areas: vec![area(1, 0, 0), area(5, 256, 16)],
         sub_areas: vec![sub_area_0, sub_area_1],
     }
@@ -161,6 +162,47 @@ pub fn plan_v() -> Plan {
         area.priority = 3;
     }
     plan
+}
+
+/// One device that can suspend, with this patience, and three areas of one sub-area each on it, every
+/// next one ranked above the last.
+pub fn plan_e(patience: u16) -> Plan {
+    let sub_area_0 = SubArea {
+        area: 0,
+        device: 0,
+        start: 0,
+        sector: 16,
+        sector_burst: 16,
+        page: 4,
+        page_burst: 4,
+        smallest_read: 1,
+        largest_read: 8,
+        sector_count: 1,
+        write_retries: 0,
+        erase_retries: 0,
+    };
+    let sub_area_1 =
+        SubArea { area: 1, start: 16, largest_read: 4, write_retries: 1, ..sub_area_0 };
+    let sub_area_2 = SubArea { area: 2, start: 32, sector_count: 2, ..sub_area_0 };
+    let area = |priority, logical_start, window_start| Area {
+        priority,
+        logical_start,
+        window_start,
+        window_length: 8,
+    };
+    Plan {
+        devices: vec![Device { start: 0, length: 64, patience, can_suspend: true }],
+        areas: vec![area(1, 0, 0), area(5, 256, 8), area(9, 512, 16)],
+        sub_areas: vec![sub_area_0, sub_area_1, sub_area_2],
+    }
+}
+
+/// Draws whether each device can suspend: two in three can, so that both marks often stand in one
+/// plan.
+pub fn draw_marks(random: &mut Random, plan: &mut Plan) {
+    for device in &mut plan.devices {
+        device.can_suspend = !random.one_in(3);
+    }
 }
 
 /// Do areas of equal priority have bytes on one device, so that the order of acceptance matters?
@@ -184,8 +226,12 @@ const REGULAR_DEVICE: u32 = 16_384;
 /// `sub_areas`: the sub-areas have plan T's sizes, lie on the devices in turn and are spread evenly
 /// over the areas.
 pub fn regular(devices: u32, areas: u32, sub_areas: u32) -> Plan {
-    let device =
-        |number| Device { start: number * REGULAR_DEVICE, length: REGULAR_DEVICE, patience: 2 };
+    let device = |number| Device {
+        start: number * REGULAR_DEVICE,
+        length: REGULAR_DEVICE,
+        patience: 2,
+        can_suspend: false,
+    };
     let area = |number| Area {
         priority: 1,
         logical_start: 0,
@@ -239,7 +285,12 @@ pub fn any(random: &mut Random) -> Vec<u8> {
 fn noise(random: &mut Random) -> Vec<u8> {
     let mut bytes = Vec::new();
     for _ in 0..random.below(4) {
-        let (mark, width) = random.pick(&[(DEVICE_MARK, 10), (AREA_MARK, 14), (SUB_AREA_MARK, 36)]);
+        let (mark, width) = random.pick(&[
+            (DEVICE_MARK, 10),
+            (SUSPENDING_DEVICE_MARK, 10),
+            (AREA_MARK, 14),
+            (SUB_AREA_MARK, 36),
+        ]);
         bytes.extend(mark);
         bytes.extend((0..width).map(|_| random.byte()));
     }

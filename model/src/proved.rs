@@ -16,6 +16,8 @@ pub struct DeviceRecord {
     pub start: u32,
     pub length: u32,
     pub poll_limit: u16,
+    /// Whether the chip can suspend an erase.
+    pub suspends: bool,
 }
 
 #[repr(C)]
@@ -95,13 +97,20 @@ pub struct AreaView {
     pub waits: Waits,
 }
 
-/// State 0 is a device on which nothing runs and that is not locked.
+/// State 0 is nothing that runs, is locked or suspended.
 #[repr(C)]
 #[derive(Clone, Copy, Debug, Default, PartialEq, Eq)]
-pub struct DeviceView {
+pub struct StateView {
     pub state: u8,
     pub area: u8,
     pub polls: u16,
+}
+
+#[repr(C)]
+#[derive(Clone, Copy, Debug, Default, PartialEq, Eq)]
+pub struct DeviceView {
+    pub does: StateView,
+    pub suspended: StateView,
 }
 
 #[repr(C)]

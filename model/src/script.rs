@@ -80,7 +80,7 @@ impl Script {
         if random.one_in(BETWEEN_BUSY_ONES) {
             return Script::busy(random);
         }
-        let plan = match random.below(12) {
+        let plan = match random.below(8) {
             0 => doubtful_plan(random),
             _ => encode(&bench_plan(random)),
         };

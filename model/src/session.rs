@@ -89,7 +89,7 @@ impl Session {
     }
 
     /// "it prints R and per device "-", "L", or area:type:physical:length of what runs"
-    fn devices_line(&self) -> String {
+    pub fn devices_line(&self) -> String {
         let mut line = "R".to_string();
         for device in 0..self.manager.plan().devices.len() {
             line += &match self.manager.device(device) {
@@ -132,9 +132,9 @@ fn with_line_end(answer: String) -> Vec<u8> {
     (answer + "\n").into_bytes()
 }
 
-/// The call that a line asks for. "A line of another type, word or field count, with a number above
+/// The call that a line without its end asks for. "A line of another type, word or field count, with a number above
 /// 4,294,967,295, or over 4,096 bytes prints "?"": none.
-fn call_of(line: &[u8], device_count: usize) -> Option<Call> {
+pub fn call_of(line: &[u8], device_count: usize) -> Option<Call> {
     if line.len() > LINE_LIMIT {
         return None;
     }

@@ -8,24 +8,37 @@
 mod busy;
 mod calls;
 mod lines;
+mod suspensions;
 
 pub use busy::{busy_calls, busy_plan};
 pub use calls::{steps, Memory, Step};
 pub use lines::{lines, lines_of, text, Line};
 
 use crate::plan::Plan;
-use crate::plans::{full, largest, plan_t, plan_v, small, valid};
+use crate::plans::{draw_marks, full, largest, plan_e, plan_t, plan_v, small, valid};
 use crate::random::Random;
 use crate::session::BENCH_SUM_LIMIT;
 
 /// A plan that the bench takes.
 pub fn bench_plan(random: &mut Random) -> Plan {
     match random.below(16) {
-        0 => random.pick(&[plan_t, plan_v])(),
-        1 => largest(),
+        0 => named(random),
+        1 => {
+            let mut plan = largest();
+            draw_marks(random, &mut plan);
+            plan
+        }
         2 => medium(random),
         3 => full(random),
         _ => small(random),
+    }
+}
+
+fn named(random: &mut Random) -> Plan {
+    match random.below(4) {
+        0 => plan_t(),
+        1 => plan_v(),
+        _ => plan_e(random.pick(&[2, 3, 5])),
     }
 }
 

@@ -3,7 +3,7 @@
 //! Lines are dropped first, then records of the plan, then numbers made plainer, until nothing more
 //! can go. A change is kept if the session still shows a difference, not necessarily the same.
 
-use crate::plan::{self, Plan};
+use crate::plan::{self, Plan, SubArea};
 use crate::plans::{encode, encode_records, raw_records};
 use crate::script::{Bytes, Lending, Script};
 use crate::subject::Difference;
@@ -20,6 +20,7 @@ pub fn smallest(script: Script, shows: &mut Shows) -> Script {
         let before = best.clone();
         best = with_fewer_lines(best, shows);
         best = with_fewer_records(best, shows);
+        best = with_plainer_marks(best, shows);
         best = with_plainer_plan(best, shows);
         best = with_plainer_lines(best, shows);
         best = with_plainer_lending(best, shows);
@@ -76,11 +77,7 @@ fn with_fewer_records(mut best: Script, shows: &mut Shows) -> Script {
         best = better_plan(best, shows, drop_last_device);
     }
     for sub_area in (0..counts(&best).2).rev() {
-        best = better_plan(best, shows, |_, plan| {
-            if sub_area < plan.sub_areas.len() {
-                plan.sub_areas.remove(sub_area);
-            }
-        });
+        best = better_plan(best, shows, |tried, plan| drop_sub_area(tried, plan, sub_area));
     }
     best
 }
@@ -134,6 +131,26 @@ fn move_area(script: &mut Script, plan: &mut Plan, area: usize) {
     });
 }
 
+/// What lies behind it in its area moves down, with the calls on it.
+fn drop_sub_area(script: &mut Script, plan: &mut Plan, sub_area: usize) {
+    if sub_area >= plan.sub_areas.len() {
+        return;
+    }
+    let dropped = plan.sub_areas.remove(sub_area);
+    let area = usize::from(dropped.area);
+    let earlier = plan.sub_areas[..sub_area].iter().filter(|s| s.area == dropped.area);
+    let offset: u64 = earlier.map(SubArea::size).sum();
+    let start = plan.areas.get(area).map_or(0, |area| u64::from(area.logical_start)) + offset;
+    let size = u32::try_from(dropped.size()).unwrap_or(u32::MAX);
+    change_calls(script, |numbers| {
+        let is_on_it = usize::try_from(numbers[1]).is_ok_and(|number| number == area);
+        let is_behind = |address: &&mut u32| is_on_it && u64::from(**address) > start;
+        if let Some(address) = numbers.get_mut(2).filter(is_behind) {
+            *address = address.saturating_sub(size);
+        }
+    });
+}
+
 /// Changes the numbers of every line of numbers but the rounds. The others stay as they are written.
 fn change_calls(script: &mut Script, change: impl Fn(&mut [u32])) {
     for line in &mut script.lines {
@@ -166,6 +183,15 @@ fn drop_last_device(script: &mut Script, plan: &mut Plan) {
     }
 }
 
+/// Takes the mark from devices that need not suspend.
+fn with_plainer_marks(mut best: Script, shows: &mut Shows) -> Script {
+    let device_count = plan::whole_records(&best.plan).map_or(0, |plan| plan.devices.len());
+    for device in 0..device_count {
+        best = better_plan(best, shows, |_, plan| plan.devices[device].can_suspend = false);
+    }
+    best
+}
+
 /// Makes the numbers of the records smaller, one at a time.
 fn with_plainer_plan(mut best: Script, shows: &mut Shows) -> Script {
     let Some(plan) = plan::whole_records(&best.plan) else {
@@ -193,7 +219,7 @@ fn with_plainer_field(best: Script, shows: &mut Shows, record: usize, field: usi
     best
 }
 
-/// Makes the numbers of the lines smaller, one at a time, and drops leading zeros.
+/// Makes the words of the lines plainer, one at a time, and drops leading zeros.
 fn with_plainer_lines(mut best: Script, shows: &mut Shows) -> Script {
     for line in 0..best.lines.len() {
         for field in 0..fields_of(&best.lines[line]).len() {
@@ -205,11 +231,8 @@ fn with_plainer_lines(mut best: Script, shows: &mut Shows) -> Script {
 
 fn with_plainer_word(best: Script, shows: &mut Shows, line: usize, field: usize) -> Script {
     let mut fields = fields_of(&best.lines[line]);
-    let Some(value) = number(&fields[field]) else {
-        return best;
-    };
-    for value in plainer(value).into_iter().chain([value]) {
-        fields[field] = value.to_string().into_bytes();
+    for word in plainer_words(&fields[field]) {
+        fields[field] = word;
         let mut tried = best.clone();
         tried.lines[line] = fields.join(&b' ');
         if tried != best && shows(&tried) {
@@ -226,6 +249,18 @@ fn with_plainer_lending(best: Script, shows: &mut Shows) -> Script {
     let best = better(best, lent, shows);
     let bench = Script { lending: Lending::bench(&best.plan), ..best.clone() };
     better(best, bench, shows)
+}
+
+/// Smaller numbers, and done for pending, which ends a request sooner.
+fn plainer_words(word: &[u8]) -> Vec<Vec<u8>> {
+    match (word, number(word)) {
+        (b"p", _) => vec![b"d".to_vec()],
+        (_, Some(value)) => {
+            let values = plainer(value).into_iter().chain([value]);
+            values.map(|value| value.to_string().into_bytes()).collect()
+        }
+        (_, None) => Vec::new(),
+    }
 }
 
 /// Smaller numbers, the smallest first: 0, 1, then nearer by half each time, down to one less.

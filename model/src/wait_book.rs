@@ -1,13 +1,14 @@
 //! "The wait book": document 01's definition of what the four counts of demand 3 must be, over the
 //! plan and the arguments of the calls, with the image and store that a round is lent. It keeps the
-//! order of Req 01 of document 02 as well.
+//! order of Req 01 of document 02 as well, and the suspended erases of Req 02.
 //!
 //! The book reads no field of the manager and no answer of it. With the manager it shares the terms
 //! of [`crate::jobs`], the cutting of jobs into pieces and the questions at the door, which it asks
 //! of its own state. Everything else is written a second time and in another style: every call is a
 //! function from an old book to the next, a round first says what becomes of every device and then
 //! makes every entry anew, jobs go through a list of their pieces instead of measuring the rest of
-//! their range, and the order of acceptance is a list of areas instead of a count.
+//! their range, the order of acceptance is a list of areas instead of a count, and a suspended erase is
+//! kept with its area instead of its device.
 
 mod bounds;
 mod round;
@@ -47,6 +48,8 @@ pub struct Entry {
     /// The number of the next piece, from 0.
     pub next: usize,
     pub retries_left: u8,
+    /// The polls of the next piece while it is a suspended erase: "the book keeps it with its polls".
+    pub suspended: Option<u64>,
     pub is_pending: bool,
     pub is_cancelled: bool,
     pub round_ended_it: bool,
@@ -85,6 +88,7 @@ impl Entry {
             work: None,
             next: 0,
             retries_left: 0,
+            suspended: None,
             is_pending: false,
             is_cancelled: false,
             round_ended_it: false,
@@ -103,8 +107,12 @@ impl Entry {
         matches!(self.work, Some(Work { task: Task::LockOf(_), .. }))
     }
 
+    pub fn is_erase(&self) -> bool {
+        matches!(self.work, Some(Work { task: Task::Pieces(Operation::Erase, _), .. }))
+    }
+
     /// The first piece not yet done.
-    fn next_piece(&self) -> Option<Piece> {
+    pub fn next_piece(&self) -> Option<Piece> {
         self.work.as_ref()?.task.piece(self.next)
     }
 
@@ -159,6 +167,13 @@ impl WaitBook {
         self.stations[device]
     }
 
+    /// The area whose erase is suspended on the device, and the polls of that erase.
+    pub fn suspended_on(&self, device: usize) -> Option<(usize, u64)> {
+        let polls = |entry: &Entry| entry.suspended.filter(|_| entry.needs() == Some(device));
+        let mut entries = self.entries.iter().enumerate();
+        entries.find_map(|(area, entry)| polls(entry).map(|polls| (area, polls)))
+    }
+
     pub fn order(&self) -> &[usize] {
         &self.order
     }
@@ -198,12 +213,12 @@ impl WaitBook {
     }
 
     /// The book after a cancel, and the number that the questions give it. A job without a running
-    /// request ends; one with a running request is marked and stays pending.
+    /// request or a suspended erase ends; one with either is marked and stays pending.
     pub fn cancel(self, area: u32) -> (WaitBook, u8) {
         match admission::cancel(&self.plan, &self, area) {
             Err(number) => (self, number),
             Ok(area) => {
-                let is_pending = self.runs_for(area);
+                let is_pending = self.runs_for(area) || self.entries[area].suspended.is_some();
                 let entry = Entry { is_pending, is_cancelled: true, ..self.entries[area].clone() };
                 (self.with_entry(area, entry).without_ended(), 0)
             }

@@ -4,7 +4,7 @@ use model::calls::Call;
 use model::demands::{Tally, Trial};
 use model::jobs::{Answer, Operation, Target};
 use model::plan::{Area, Device, Plan, SubArea};
-use model::plans::{equals_meet, largest, plan_t, plan_v, priority_count, small, valid};
+use model::plans::{equals_meet, largest, plan_e, plan_t, plan_v, priority_count, small, valid};
 use model::random::Random;
 use model::sessions::{busy_calls, busy_plan, steps, Step};
 use std::time::Instant;
@@ -87,6 +87,9 @@ fn assert_tried(tally: &Tally, often: u64) {
     }
     let bounds = [tally.own_bounds_reached, tally.below_bounds_reached];
     assert!(bounds.iter().all(|reached| *reached >= often), "{bounds:?}");
+    for (name, count) in tally.suspensions.counts() {
+        assert!(count >= often / 4, "erases, {name}: only {count}");
+    }
     // Below is rare between equals: the busy lists try it.
     for (name, count) in tally.equals.counts().into_iter().filter(|(name, _)| *name != "below") {
         assert!(count >= often, "between equals, {name}: only {count}");
@@ -98,17 +101,19 @@ fn small_plans() {
     assert_tried(&runs(51, 9_000, small), 1_000);
 }
 
-/// Longer jobs on plans T and V, on the plan with most records, and on random plans with little
+/// Longer jobs on plans T, V and E, on the plan with most records, and on random plans with little
 /// patience.
 #[test]
 fn other_plans() {
-    let plan = |random: &mut Random| match random.below(8) {
+    let plan = |random: &mut Random| match random.below(16) {
         0 => plan_t(),
-        1..=2 => plan_v(),
-        3 => largest(),
+        1 => plan_e(random.pick(&[2, 3, 5])),
+        2..=5 => plan_v(),
+        6..=7 => largest(),
         _ => impatient(random),
     };
     let tally = runs(52, 4_000, plan);
+    assert!(tally.suspensions.counts().iter().all(|(_, count)| *count >= 50));
     assert!((0..=3).all(|result| tally.results(result) >= 1_000));
     assert!(tally.waits.iter().all(|count| *count >= 1_000));
 }
@@ -118,7 +123,7 @@ fn other_plans() {
 #[test]
 fn busy_lists() {
     let mut random = Random::new(53);
-    let mut sums = [0; 6];
+    let (mut sums, mut suspended) = ([0; 6], 0);
     for number in 0..24 {
         let plan = busy_plan(&mut random);
         let calls = busy_calls(&mut random, &plan);
@@ -130,9 +135,11 @@ fn busy_lists() {
         assert!(acceptances.iter().all(|count| *count > 300), "{acceptances:?}");
         let counts = tally.equals.counts().map(|(_, count)| count);
         sums.iter_mut().zip(counts).for_each(|(sum, count)| *sum += count);
+        suspended += tally.suspensions.suspended;
     }
-    println!("between equals: {sums:?}");
+    println!("between equals: {sums:?}, erases suspended: {suspended}");
     assert!(sums.iter().all(|sum| *sum >= 100), "{sums:?}");
+    assert!(suspended >= 50, "{suspended}");
 }
 
 /// A random valid plan with an image that is not too large to be looked at after every call.
@@ -173,8 +180,8 @@ fn three_stretches() -> Plan {
     };
     Plan {
         devices: vec![
-            Device { start: 0, length: 32, patience: 3 },
-            Device { start: 32, length: 32, patience: 4 },
+            Device { start: 0, length: 32, patience: 3, can_suspend: false },
+            Device { start: 32, length: 32, patience: 4, can_suspend: false },
         ],
         areas: vec![area(9, 0), area(1, 16), area(1, 32)],
         sub_areas: vec![
@@ -187,8 +194,21 @@ fn three_stretches() -> Plan {
     }
 }
 
+/// The same with a device 0 that can suspend and an area 3 on it, between area 0 and area 1.
+fn three_stretches_that_suspend() -> Plan {
+    let mut plan = three_stretches();
+    plan.devices[0].can_suspend = true;
+    plan.areas.push(Area { priority: 5, window_start: 48, ..plan.areas[0] });
+    plan.sub_areas.push(SubArea { area: 3, start: 20, ..plan.sub_areas[3] });
+    plan
+}
+
+fn job(operation: Operation, area: u32, length: u32) -> Step {
+    Step::Call(Call::Job(operation, Target { area, address: 0, length }))
+}
+
 fn write(area: u32, length: u32) -> Step {
-    Step::Call(Call::Job(Operation::Write, Target { area, address: 0, length }))
+    job(Operation::Write, area, length)
 }
 
 fn round(device_0: Answer, device_1: Answer) -> Step {
@@ -197,8 +217,8 @@ fn round(device_0: Answer, device_1: Answer) -> Step {
 
 /// Runs the steps on fresh memory and gives own and below of area 0, which must have succeeded, with
 /// their bounds.
-fn bounds_after(steps: &[Step]) -> [(u128, u128); 2] {
-    let mut trial = Trial::of(&three_stretches(), vec![255; 64], vec![0; 48]);
+fn bounds_after(plan: &Plan, steps: &[Step]) -> [(u128, u128); 2] {
+    let mut trial = Trial::of(plan, vec![255; 64], vec![0; 64]);
     run(&mut trial, steps, &mut Tally::default(), "bounds");
     let info = trial.manager().job_info(0).expect("area 0");
     assert_eq!((info.result, info.processed), (0, 16));
@@ -235,10 +255,39 @@ fn slowest_others() -> Vec<Step> {
     steps
 }
 
+/// The same where device 0 can suspend: area 0 erases, so that nothing gives way to it.
+fn slowest_others_that_suspend() -> Vec<Step> {
+    let (p, d) = (Answer::Pending, Answer::Done);
+    let (erase, read) = (job(Operation::Erase, 1, 4), job(Operation::Read, 3, 4));
+    // The read suspends the erase before area 0 has a job there.
+    let suspension = [erase, round(p, p), read, round(p, p)];
+    // Two rounds below for the read, two for the erase that resumes with one poll.
+    let wait = [round(p, p), round(p, p), round(d, p), round(p, p), round(d, p)];
+    let mut steps = suspension.to_vec();
+    steps.push(job(Operation::Erase, 0, 16));
+    steps.extend(wait.clone());
+    // Area 2 starts before area 0 comes to device 1, which suspends nothing: three rounds below.
+    steps.extend([write(2, 4), round(d, p), round(d, p), round(p, p), round(p, p), round(p, p)]);
+    // Both are there before area 0 comes back to device 0: its piece is done in the first of the
+    // rounds.
+    steps.extend(suspension);
+    steps.push(round(p, d));
+    steps.extend(wait.into_iter().skip(1));
+    steps.push(round(d, p));
+    steps
+}
+
 #[test]
 fn both_bounds_are_reached() {
-    let [own, _] = bounds_after(&slowest_success());
+    let [own, _] = bounds_after(&three_stretches(), &slowest_success());
     assert_eq!(own, (9 + 9 + 8 + 3, 29));
-    let [_, below] = bounds_after(&slowest_others());
+    let [_, below] = bounds_after(&three_stretches(), &slowest_others());
     assert_eq!(below, (2 + 3 + 2, 7));
+}
+
+/// "On such chips the bound on rounds below becomes twice (patience less one) per stretch".
+#[test]
+fn doubled_bound_is_reached() {
+    let [_, below] = bounds_after(&three_stretches_that_suspend(), &slowest_others_that_suspend());
+    assert_eq!(below, (2 * 2 + 3 + 2 * 2, 11));
 }

@@ -12,7 +12,12 @@ const SEEDS: [u64; 4] = [11, 12, 13, 14];
 const PLANS_PER_SEED: u32 = 40_000;
 
 fn device_record(device: &Device) -> DeviceRecord {
-    DeviceRecord { start: device.start, length: device.length, poll_limit: device.patience }
+    DeviceRecord {
+        start: device.start,
+        length: device.length,
+        poll_limit: device.patience,
+        suspends: device.can_suspend,
+    }
 }
 
 fn area_record(area: &Area) -> AreaRecord {

@@ -14,8 +14,11 @@ use Rattle.state.specs.declared.Area.{Area}
 use Rattle.state.specs.declared.Device.{Device}
 use Rattle.state.specs.declared.DeviceState.{DeviceState}
 use Rattle.state.specs.declared.DeviceState.the-variants.{Free, Runs, LockedFor}
+use Rattle.state.specs.declared.Suspended.{Suspended}
+use Rattle.state.specs.declared.Suspended.the-variants as Kept
 use Rattle.interface.specs.declared.JobView.{JobView}
 use Rattle.interface.specs.declared.AreaView.{AreaView}
+use Rattle.interface.specs.declared.StateView.{StateView}
 use Rattle.interface.specs.declared.DeviceView.{DeviceView}
 use Rattle.interface.specs.declared.LoadView.{LoadView}
 
@@ -37,13 +40,20 @@ areaView a = record { job = jobView (a .job); waits = a .waits }
 abbrev pub noAreaView : AreaView
 noAreaView = areaView freshArea
 
-abbrev pub stateView : DeviceState → DeviceView
-stateView Free = record { state = 0; area = 0; polls = 0 }
+abbrev pub noStateView : StateView
+noStateView = record { state = 0; area = 0; polls = 0 }
+
+abbrev pub stateView : DeviceState → StateView
+stateView Free = noStateView
 stateView (Runs a n) = record { state = 1; area = a; polls = n }
 stateView (LockedFor a) = record { state = 2; area = a; polls = 0 }
 
+abbrev pub keptView : Suspended → StateView
+keptView Kept.Nothing = noStateView
+keptView (Kept.Erase a n) = record { state = 1; area = a; polls = n }
+
 abbrev pub deviceView : Device → DeviceView
-deviceView d = stateView (d .state)
+deviceView d = record { does = stateView (d .state); suspended = keptView (d .suspended) }
 
 abbrev pub noDeviceView : DeviceView
 noDeviceView = deviceView freeDevice

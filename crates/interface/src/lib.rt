@@ -4,7 +4,7 @@ ghost use Prim.Native.Nat.{_≤_};
 ghost use lib.ListN.{length, take};
 ghost use Rattle.requests.specs.Effects.{memoryOf};
 ghost use Rattle.session.specs.Fold.{playedAll};
-ghost use Rattle.interface.specs.Views.{jobView, areaView, noAreaView, areaViews, deviceView, noDeviceView, deviceViews, loadView};
+ghost use Rattle.interface.specs.Views.{jobView, areaView, noAreaView, areaViews, noStateView, stateView, keptView, deviceView, noDeviceView, deviceViews, loadView};
 use manager::Manager;
 use memory::JobResult;
 use memory::LogicalAddress;
@@ -14,6 +14,7 @@ use state::Area;
 use state::Device;
 use state::DeviceState;
 use state::Job;
+use state::Suspended;
 use state::Waits;
 
 #[repr(C)]
@@ -35,10 +36,17 @@ pub struct AreaView {
 
 // state: 0 nothing runs, 1 runs for the area, 2 locked for the area.
 #[repr(C)]
-pub struct DeviceView {
+pub struct StateView {
     pub state: u8,
     pub area: u8,
     pub polls: u16,
+}
+
+// state: 0 nothing is suspended, 1 the erase of the area.
+#[repr(C)]
+pub struct DeviceView {
+    pub does: StateView,
+    pub suspended: StateView,
 }
 
 #[repr(C)]
@@ -91,33 +99,65 @@ impl AreaView {
     }
 }
 
-impl DeviceView {
-    fn none() -> DeviceView
-        ensures { λ r. ⌜ r ≡ noDeviceView ⌝ }
+impl StateView {
+    fn none() -> StateView
+        ensures { λ r. ⌜ r ≡ noStateView ⌝ }
     {
-        DeviceView {
+        StateView {
             state: 0,
             area: 0,
             polls: 0,
         }
     }
 
-    fn of(device: Device) -> DeviceView
-        ensures { λ r. ⌜ r ≡ deviceView device ⌝ }
+    fn of(state: DeviceState) -> StateView
+        ensures { λ r. ⌜ r ≡ stateView state ⌝ }
     {
-        let state = device.state;
         match state {
-            DeviceState::Free => DeviceView::none(),
-            DeviceState::Runs { area, polls } => DeviceView {
+            DeviceState::Free => StateView::none(),
+            DeviceState::Runs { area, polls } => StateView {
                 state: 1,
                 area,
                 polls,
             },
-            DeviceState::LockedFor(area) => DeviceView {
+            DeviceState::LockedFor(area) => StateView {
                 state: 2,
                 area,
                 polls: 0,
             },
+        }
+    }
+
+    fn kept(suspended: Suspended) -> StateView
+        ensures { λ r. ⌜ r ≡ keptView suspended ⌝ }
+    {
+        match suspended {
+            Suspended::Nothing => StateView::none(),
+            Suspended::Erase { area, polls } => StateView {
+                state: 1,
+                area,
+                polls,
+            },
+        }
+    }
+}
+
+impl DeviceView {
+    fn none() -> DeviceView
+        ensures { λ r. ⌜ r ≡ noDeviceView ⌝ }
+    {
+        let device = Device::free();
+        DeviceView::of(device)
+    }
+
+    fn of(device: Device) -> DeviceView
+        ensures { λ r. ⌜ r ≡ deviceView device ⌝ }
+    {
+        let state = device.state;
+        let suspended = device.suspended;
+        DeviceView {
+            does: StateView::of(state),
+            suspended: StateView::kept(suspended),
         }
     }
 }

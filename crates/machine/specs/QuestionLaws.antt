@@ -13,18 +13,17 @@ use Rattle.plan.specs.Questions.{lengthSum}
 use Rattle.plan.specs.declared.records.Plan.{Plan}
 use Rattle.rules.specs.Admission.{rangeQuestions, jobQuestions, imageFits, storeReaches, roundNumber}
 use Rattle.rules.specs.Machine.{Core, isPending}
-use Rattle.state.specs.Fresh.{noJob}
+use Rattle.state.specs.Fresh.{noJob, freeDevice}
 use Rattle.state.specs.declared.Area.{Area}
 use Rattle.state.specs.declared.Device.{Device}
-use Rattle.state.specs.declared.DeviceState.the-variants.{Free}
-use Rattle.machine.specs.Sound.{jobIn, stateIn, isSound}
+use Rattle.machine.specs.Sound.{jobIn, deviceIn, isSound}
 
 -- the jobs alone: a cancel and a job are asked nothing of what the devices do; and the devices alone, for a release
 abbrev pub jobsAlone : List Area → Core
-jobsAlone areas = record { jobs = jobIn areas; devices = λ _. Free }
+jobsAlone areas = record { jobs = jobIn areas; devices = λ _. freeDevice }
 
 abbrev pub devicesAlone : List Device → Core
-devicesAlone devices = record { jobs = λ _. noJob; devices = stateIn devices }
+devicesAlone devices = record { jobs = λ _. noJob; devices = deviceIn devices }
 
 -- questions 9 to 11 answered "yes" leave the questions of the range
 pub job-number : (sound : Bool) (p : Plan) (c : Core) (a : ℕ) (t : Task) → sound ≡ true → ltb a (p .«area_count») ≡ true → isPending (c .jobs a) ≡ false →

@@ -51,16 +51,19 @@ stateSound p d jobs Free = true
 stateSound p d jobs (LockedFor a) = true
 stateSound p d jobs (Runs a polls) = requestSound p d a polls (jobs a)
 
--- an area's job, and what a device does, in the manager's arrays
+-- an area's job, a device, and what it does, in the manager's arrays
 abbrev pub jobIn : List Area → ℕ → Job
 jobIn l a = getD l a freshArea .job
 
-abbrev pub stateIn : List Device → ℕ → DeviceState
-stateIn l d = getD l d freeDevice .state
+abbrev pub deviceIn : List Device → ℕ → Device
+deviceIn l d = getD l d freeDevice
 
--- both, as the rules see them
+abbrev pub stateIn : List Device → ℕ → DeviceState
+stateIn l d = deviceIn l d .state
+
+-- jobs and devices, as the rules see them
 abbrev pub coreIn : List Area → List Device → Core
-coreIn areas devices = record { jobs = jobIn areas; devices = stateIn devices }
+coreIn areas devices = record { jobs = jobIn areas; devices = deviceIn devices }
 
 -- "Does the state pass the team's soundness test?" The manager of all zeros has no device, so it does not.
 unfoldable pub isSound : Plan → List Area → List Device → Bool

@@ -30,7 +30,7 @@ asked false q f = refl
 
 -- every reachable state: device d passes
 module _ (p : Plan) (w : WellFormed p) (c : Core) (reach : Reachable (layoutOf p) (admits p) c) (cuts : AtCuts p c) (d : ℕ) where
-  sound-on : (x : DeviceState) → c .devices d ≡ x → stateSound p d (c .jobs) x ≡ true
+  sound-on : (x : DeviceState) → c .devices d .state ≡ x → stateSound p d (c .jobs) x ≡ true
   unfolding requestSound jobRuns segmentFits layoutOf
   sound-on Free e = refl
   sound-on (LockedFor a) e = refl
@@ -52,8 +52,8 @@ module _ (p : Plan) (w : WellFormed p) (c : Core) (reach : Reachable (layoutOf p
       (and-intro (le-leb _ _ left)
       (asked (usesWindow (j .task .kind)) _ (λ u. le-leb _ _ (window u)))))))
 
-  pub device-sound : stateSound p d (c .jobs) (c .devices d) ≡ true
-  device-sound = sound-on (c .devices d) refl
+  pub device-sound : stateSound p d (c .jobs) (c .devices d .state) ≡ true
+  device-sound = sound-on (c .devices d .state) refl
 
 -- a count in its bounds
 counted : (most n : ℕ) → 1 ≤ n → n ≤ most → within most n ≡ true

@@ -4,9 +4,8 @@ ghost use Prim.Native.Nat.{_≤_, _<_};
 ghost use Rattle.arith.specs.Bounded.{some};
 ghost use Rattle.rules.specs.Layout.{layoutOf};
 ghost use Rattle.rules.specs.Admission.{holdsLock};
-ghost use Rattle.rules.specs.Machine.{begunWith, isOwn, waitOf, cancel};
-ghost use Rattle.machine.specs.Sound.{jobIn, stateIn, coreIn};
-ghost use Rattle.machine.specs.DeviceLaws.{runsFor};
+ghost use Rattle.rules.specs.Machine.{begunWith, need, runsFor, keptFor, holds, cancel};
+ghost use Rattle.machine.specs.Sound.{jobIn, deviceIn, stateIn, coreIn};
 use jobs::begun;
 use jobs::cancelled;
 use jobs::ended;
@@ -18,8 +17,19 @@ use state::Area;
 use state::Device;
 use state::DeviceState;
 use state::Job;
+use state::Suspended;
 
-// What a device does. A number from the plan may lie past the devices that a manager has: there nothing runs or is locked.
+// A number from the plan may lie past the devices that a manager has: there nothing runs, is suspended or locked.
+fn device_on(devices: [Device; 4], device: usize) -> Device
+    ensures { λ r. ⌜ r ≡ deviceIn devices device ⌝ }
+{
+    if 4 <= device {
+        return Device::free();
+    }
+    devices[device]
+}
+
+// What a device does.
 pub fn state_on(devices: [Device; 4], device: usize) -> DeviceState
     ensures { λ r. ⌜ r ≡ stateIn devices device ⌝ }
 {
@@ -43,15 +53,37 @@ fn runs_for(state: DeviceState, area: usize) -> bool
     }
 }
 
-// Does a device run a request of the area?
-pub fn runs_somewhere(devices: [Device; 4], area: usize) -> bool
-    ensures { λ r. ⌜ r ≡ some (λ d. runsFor area (stateIn devices d)) 4 ⌝ }
+fn suspended_for(suspended: Suspended, area: usize) -> bool
+    ensures { λ r. ⌜ r ≡ keptFor area suspended ⌝ }
+{
+    match suspended {
+        Suspended::Nothing => false,
+        Suspended::Erase {
+            area: runner,
+            polls: _,
+        } => runner as usize == area,
+    }
+}
+
+// Does the device run a request of the area, or keep it suspended?
+fn holds(device: Device, area: usize) -> bool
+    ensures { λ r. ⌜ r ≡ holds area device ⌝ }
+{
+    let state = device.state;
+    if runs_for(state, area) {
+        return true;
+    }
+    let suspended = device.suspended;
+    suspended_for(suspended, area)
+}
+
+// Does a device hold a request of the area?
+pub fn held_somewhere(devices: [Device; 4], area: usize) -> bool
+    ensures { λ r. ⌜ r ≡ some (λ d. holds area (deviceIn devices d)) 4 ⌝ }
 {
     let mut d = 0;
     while d < 4 {
-        let device = devices[d];
-        let state = device.state;
-        if runs_for(state, area) {
+        if holds(devices[d], area) {
             return true;
         }
         d += 1;
@@ -59,28 +91,28 @@ pub fn runs_somewhere(devices: [Device; 4], area: usize) -> bool
     false
 }
 
-// Does the device that the area's job needs run its request?
-fn request_runs(plan: Plan, areas: [Area; 8], devices: [Device; 4], area: usize) -> bool
+// Does the device that the area's job needs hold its request?
+fn request_held(plan: Plan, areas: [Area; 8], devices: [Device; 4], area: usize) -> bool
     requires { ⌜ (plan .«sub_area_count» ≤ 32) × (area < 8) ⌝ }
-    ensures { λ r. ⌜ r ≡ isOwn (waitOf (layoutOf plan) (coreIn areas devices) area) ⌝ }
+    ensures { λ r. ⌜ r ≡ holds area (deviceIn devices (need (layoutOf plan) area (jobIn areas area))) ⌝ }
 {
     let entry = areas[area];
     let job = entry.job;
     let task = job.task;
     let segment = segment_at(plan, area, task, job.processed);
-    let state = state_on(devices, segment.device as usize);
-    runs_for(state, area)
+    let device = device_on(devices, segment.device as usize);
+    holds(device, area)
 }
 
-// Does the area's own request run? Where no device runs one, the segment that is due needs no lookup.
-fn area_runs(plan: Plan, areas: [Area; 8], devices: [Device; 4], area: usize) -> bool
+// The same. Where no device holds one, the segment that is due needs no lookup.
+fn area_held(plan: Plan, areas: [Area; 8], devices: [Device; 4], area: usize) -> bool
     requires { ⌜ (plan .«sub_area_count» ≤ 32) × (area < 8) ⌝ }
-    ensures { λ r. ⌜ r ≡ isOwn (waitOf (layoutOf plan) (coreIn areas devices) area) ⌝ }
+    ensures { λ r. ⌜ r ≡ holds area (deviceIn devices (need (layoutOf plan) area (jobIn areas area))) ⌝ }
 {
-    if !runs_somewhere(devices, area) {
+    if !held_somewhere(devices, area) {
         return false;
     }
-    request_runs(plan, areas, devices, area)
+    request_held(plan, areas, devices, area)
 }
 
 // Is the device locked for the area?
@@ -105,14 +137,14 @@ pub fn begun_job(areas: [Area; 8], area: usize, task: Task, retries: u8) -> Job
     begun(task, retries, job)
 }
 
-// The area's job after a cancel: over at once, unless its request runs.
+// The area's job after a cancel: over at once, unless its request runs or is suspended.
 pub fn cancelled_job(plan: Plan, areas: [Area; 8], devices: [Device; 4], area: usize) -> Job
     requires { ⌜ (plan .«sub_area_count» ≤ 32) × (area < 8) ⌝ }
     ensures { λ r. ⌜ r ≡ cancel (layoutOf plan) area (coreIn areas devices) .jobs area ⌝ }
 {
     let entry = areas[area];
     let job = entry.job;
-    if area_runs(plan, areas, devices, area) {
+    if area_held(plan, areas, devices, area) {
         return cancelled(job);
     }
     ended(job, JobResult::CANCELED)

@@ -8,7 +8,7 @@ ghost use Rattle.rules.specs.Machine.{due, need};
 ghost use Rattle.rules.specs.Queries.{noRequest, requestOn, jobInfoOf, noMemoryInfo, memoryInfoIn, memoryInfoOf};
 ghost use Rattle.state.specs.Fresh.{freshArea};
 ghost use Rattle.machine.specs.Sound.{jobIn, stateIn, coreIn};
-use crate::devices::runs_somewhere;
+use crate::devices::held_somewhere;
 use crate::devices::state_on;
 use memory::LogicalAddress;
 use memory::MemAddress;
@@ -63,7 +63,7 @@ fn request_on(area: usize, segment: Segment, state: DeviceState) -> RequestInfo
     }
 }
 
-// The request of an area that some device runs one for.
+// The request of an area that some device holds one for.
 fn running_request(plan: Plan, areas: [Area; 8], devices: [Device; 4], area: usize) -> RequestInfo
     requires { ⌜ (plan .«sub_area_count» ≤ 32) × (area < 8) ⌝ }
     ensures { λ r. ⌜ r ≡ requestOn area (due (layoutOf plan) area (jobIn areas area)) (stateIn devices (need (layoutOf plan) area (jobIn areas area))) ⌝ }
@@ -80,7 +80,7 @@ fn request_info(plan: Plan, areas: [Area; 8], devices: [Device; 4], area: usize)
     requires { ⌜ (plan .«sub_area_count» ≤ 32) × (area < 8) ⌝ }
     ensures { λ r. ⌜ r ≡ requestOn area (due (layoutOf plan) area (jobIn areas area)) (stateIn devices (need (layoutOf plan) area (jobIn areas area))) ⌝ }
 {
-    if !runs_somewhere(devices, area) {
+    if !held_somewhere(devices, area) {
         return no_request();
     }
     running_request(plan, areas, devices, area)

@@ -22,11 +22,11 @@ use Rattle.memory.specs.declared.LogicalAddress.{LogicalAddress}
 use Rattle.memory.specs.declared.Task.{Task}
 use Rattle.machine.specs.DeviceLaws.{begun-first, lock-known}
 use Rattle.machine.specs.QuestionLaws.{jobsAlone, devicesAlone}
-use Rattle.machine.specs.Sound.{jobIn, sound-few, isSound}
+use Rattle.machine.specs.Sound.{jobIn, deviceIn, sound-few, isSound}
 use Rattle.rounds.specs.Close.{waitsIn, areasAfter, devicesAfter, halvesOf}
 use Rattle.rules.specs.Admission.{isKnown, rangeDevice, jobQuestions, releaseQuestions, cancelQuestions, infoQuestions, memoryInfoQuestions, imageFits, storeReaches, roundNumber}
 use Rattle.rules.specs.Layout.{layoutOf}
-use Rattle.rules.specs.Machine.{begunWith, begin, cancel, release}
+use Rattle.rules.specs.Machine.{doing, begunWith, begin, cancel, release}
 use Rattle.segment.specs.Segments.{segmentAt}
 use Rattle.rules.specs.Queries.{jobInfoOf, noMemoryInfo, memoryInfoOf}
 use Rattle.state.specs.Fresh.{noWaits}
@@ -124,10 +124,10 @@ module _ (m : Manager) (a : ℕ) where
     release-refused e = rw e
 
     pub release-accepted : (d : ℕ) → d ≡ rangeDevice (m .plan) a address n → releaseNumberOf m a address n ≡ 0 →
-        withDevice d Free m ≡ afterRelease m a address n
+        withDevice d (doing Free (deviceIn (m .devices) d)) m ≡ afterRelease m a address n
     unfolding afterRelease release
     release-accepted d is e =
-        rw (eq-eqb (releaseNumberOf m a address n) 0 e, is) (ap (λ x. withDevice (rangeDevice (m .plan) a address n) x m) (sym (upd-same (coreOf m .devices) _ Free)))
+        rw (eq-eqb (releaseNumberOf m a address n) 0 e, is) (ap (λ x. withDevice (rangeDevice (m .plan) a address n) x m) (sym (upd-same (coreOf m .devices) _ _)))
 
 -- what a refused query gives
 module _ (m : Manager) (a : ℕ) (e : eqb (infoNumberOf m a) 0 ≡ false) where

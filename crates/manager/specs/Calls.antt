@@ -23,7 +23,7 @@ use Rattle.rules.specs.Ranks.{agesAfter}
 use Rattle.rules.specs.Queries.{noRequest, jobInfoOf, noMemoryInfo, memoryInfoOf}
 use Rattle.state.specs.Ages.{ageIn}
 use Rattle.state.specs.Fresh.{noJob, noWaits}
-use Rattle.state.specs.declared.DeviceState.{DeviceState}
+use Rattle.state.specs.declared.Device.{Device}
 use Rattle.state.specs.declared.Job.{Job}
 use Rattle.state.specs.declared.JobInfo.{JobInfo}
 use Rattle.state.specs.declared.MemoryInfo.{MemoryInfo}
@@ -65,8 +65,8 @@ withAccepted a j w m =
       ages = table 8 (agesAfter a (ageIn (m .ages))) 0 8;
     }
 
-abbrev pub withDevice : ℕ → DeviceState → Manager → Manager
-withDevice d x m = record { plan = m .plan; areas = m .areas; devices = set (m .devices) d (record { state = x }); ages = m .ages }
+abbrev pub withDevice : ℕ → Device → Manager → Manager
+withDevice d x m = record { plan = m .plan; areas = m .areas; devices = set (m .devices) d x; ages = m .ages }
 
 -- one of the five jobs, or a lock request: "An accepted job makes its area pending and sets processed length and counts to 0"
 unfoldable pub jobNumberOf : Manager → ℕ → Task → ℕ

@@ -5,8 +5,9 @@ ghost use Rattle.plan.specs.Questions.{loadNumber};
 ghost use Prim.Native.Nat.{_<_};
 ghost use Rattle.memory.specs.declared.JobType.the-variants.{Write, Read, Compare, Erase, BlankCheck, Lock};
 ghost use Rattle.manager.specs.Calls.{withArea, withAccepted, withDevice, jobNumberOf, afterJob, releaseNumberOf, afterRelease, cancelNumberOf, afterCancel, infoNumberOf, statusOf, resultOf, processedOf, noJobInfo, infoOf, memoryInfoNumberOf, memoryOfArea, roundNumberOf, afterRound, memoryAfterRound};
-ghost use Rattle.machine.specs.Sound.{jobIn};
+ghost use Rattle.machine.specs.Sound.{jobIn, deviceIn};
 ghost use Rattle.rounds.specs.Close.{waitsIn};
+ghost use Rattle.rules.specs.Machine.{doing};
 ghost use Rattle.requests.specs.Effects.{memoryOf};
 ghost use Rattle.manager.specs.Load.{freshManager, loadedManager};
 use admission::range_device;
@@ -170,9 +171,12 @@ impl Manager {
 
     fn with_device(mut self, device: usize, state: DeviceState) -> Manager
         requires { ⌜ device < 4 ⌝ }
-        ensures { λ r. ⌜ r ≡ withDevice device state self ⌝ }
+        ensures { λ r. ⌜ r ≡ withDevice device (doing state (deviceIn (self .devices) device)) self ⌝ }
     {
-        self.devices[device] = Device { state };
+        let devices = self.devices;
+        let old = devices[device];
+        let suspended = old.suspended;
+        self.devices[device] = Device { state, suspended };
         self
     }
 

@@ -1,5 +1,6 @@
 -- Plans of document 01 and near it, loaded by the definitions.
 use Prim.Native.Nat.{ℕ, zero, suc, _/_, _%_}
+use mathlib.Core.Bool.{true, false}
 use mathlib.Core.Path.{_≡_, refl}
 use mathlib.Core.List.{List, [], _∷_, _++_}
 use Rattle.arith.specs.Bounded.{every, some, sum}
@@ -9,15 +10,19 @@ use Rattle.arith.specs.Tables.{table}
 use Rattle.plan.specs.Number.{numberAt}
 use Rattle.plan.specs.Records as records
 use Rattle.plan.specs.Questions as questions
-use Rattle.plan.specs.Questions.{loadNumber}
+use Rattle.plan.specs.Questions.{deviceOf, loadNumber}
 
 -- `width` bytes of a number, the least significant first
 abbrev pub bytes : ℕ → ℕ → List ℕ
 bytes zero n = []
 bytes (suc width) n = n % 256 ∷ bytes width (n / 256)
 
+-- a device record with this second byte of its mark: 86, or 83 for a chip that can suspend
+abbrev pub markedDevice : ℕ → ℕ → ℕ → ℕ → List ℕ
+markedDevice second start size limit = 68 ∷ second ∷ bytes 4 start ++ bytes 4 size ++ bytes 2 limit
+
 abbrev pub device : ℕ → ℕ → ℕ → List ℕ
-device start size limit = 68 ∷ 86 ∷ bytes 4 start ++ bytes 4 size ++ bytes 2 limit
+device = markedDevice 86
 
 abbrev pub area : ℕ → ℕ → ℕ → ℕ → List ℕ
 area priority start window size = 65 ∷ 82 ∷ bytes 2 priority ++ bytes 4 start ++ bytes 4 window ++ bytes 4 size
@@ -29,21 +34,40 @@ subArea a d start sizes count writes erases =
 abbrev pub sizes : ℕ → ℕ → ℕ → ℕ → ℕ → ℕ → List ℕ
 sizes sector burst page pages least most = bytes 4 sector ++ bytes 4 burst ++ bytes 4 page ++ bytes 4 pages ++ bytes 4 least ++ bytes 4 most
 
--- plan T, but for device length, poll limit and the first sub-area's sector burst
+-- plan T, but for the device records and the first sub-area's sector burst
+abbrev planOn : List ℕ → ℕ → List ℕ
+planOn devices burst =
+    devices ++ area 1 0 0 16 ++ area 5 256 16 16 ++ subArea 0 0 0 (sizes 16 burst 4 8 1 8) 2 1 0 ++ subArea 1 0 32 (sizes 16 16 4 4 1 4) 2 0 0
+
 abbrev pub planWith : ℕ → ℕ → ℕ → List ℕ
-planWith size limit burst =
-    device 0 size limit ++ area 1 0 0 16 ++ area 5 256 16 16 ++ subArea 0 0 0 (sizes 16 burst 4 8 1 8) 2 1 0
-    ++ subArea 1 0 32 (sizes 16 16 4 4 1 4) 2 0 0
+planWith size limit = planOn (device 0 size limit)
 
 abbrev pub planT : List ℕ
 planT = planWith 64 2 32
 
+-- plan T on a device with this second byte of its mark, and beside it one with that
+abbrev planMarked : ℕ → ℕ → List ℕ
+planMarked this that = planOn (markedDevice this 0 64 2 ++ markedDevice that 64 16 2) 32
+
+-- three areas on a device with this second byte of its mark and this poll limit
+abbrev pub planE : ℕ → ℕ → List ℕ
+planE second limit =
+    markedDevice second 0 64 limit ++ area 1 0 0 8 ++ area 5 256 8 8 ++ area 9 512 16 8 ++ subArea 0 0 0 (sizes 16 16 4 4 1 8) 1 0 0
+    ++ subArea 1 0 16 (sizes 16 16 4 4 1 4) 1 1 0 ++ subArea 2 0 32 (sizes 16 16 4 4 1 8) 2 0 0
+
 -- "Empty plan: 2. Patience 0: 3. Device length 63: 6. Sector burst 24: 5."
+-- document 02, 02: "A device record with mark hex 44 53, laid out as before, means the chip can pause." A mark that is none is for 1.
 pub examples :
     (loadNumber planT ≡ 0)
+    × (loadNumber (planE 83 3) ≡ 0)
     × (loadNumber [] ≡ 2)
     × (loadNumber (planWith 64 0 32) ≡ 3)
     × (loadNumber (planWith 63 2 32) ≡ 6)
     × (loadNumber (planWith 64 2 24) ≡ 5)
+    × (loadNumber (planMarked 83 86) ≡ 0)
+    × (loadNumber (planMarked 86 83) ≡ 0)
+    × (loadNumber (planMarked 83 70) ≡ 1)
+    × (deviceOf (records.planOf (planMarked 83 86) .devices) 0 .suspends ≡ true)
+    × (deviceOf (records.planOf (planMarked 83 86) .devices) 1 .suspends ≡ false)
 unfolding firstNo every some sum multiple table numberAt loadNumber questions.wholeRecords questions.planQuestions questions.recordQuestions questions.countsFit questions.devicesJoin questions.deviceJoins questions.deviceDue questions.windowsFit questions.windowsApart questions.apart questions.sizesFit questions.granularityFits questions.allPlaced questions.isPlaced questions.insideDevice questions.spacesFit questions.spaceFits questions.sizeIn questions.subAreasApart records.planOf records.recordsEnd records.subAreasStart records.areasStart records.deviceCount records.areaCount records.subAreaCount records.recordsFrom records.recordsUpTo records.isRecord records.deviceAt records.areaAt records.subAreaAt records.granularityAt
-examples = (refl, refl, refl, refl, refl)
+examples = (refl, refl, refl, refl, refl, refl, refl, refl, refl, refl, refl)

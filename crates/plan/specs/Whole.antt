@@ -1,9 +1,10 @@
 -- Question 1 as plain facts: the bytes are read in one way only.
 use Prim.Native.Nat.{ℕ, zero, suc, _+_, _*_, _≤_, _<_}
 use mathlib.Core.Path.{_≡_, refl, sym, ap, _∙_}
-use mathlib.Core.Bool.{true}
+use mathlib.Core.Bool.{true, _||_}
 use mathlib.Core.List.{List}
 use mathlib.Core.Logic.{_↔_}
+use lib.Dec.{eqb}
 use lib.ListN.{length, getD}
 use native.Mathlib.Nat.{zero-add}
 use native.Mathlib.Omega.{arith}
@@ -30,7 +31,7 @@ use Rattle.plan.specs.declared.scan.RecordFormat.{RecordFormat}
 pub record Record (f : RecordFormat) (l : List ℕ) (at : ℕ) : Type 0 where
   pub inside : at + f .size ≤ length l
   pub first-mark : getD l at 0 ≡ f .first
-  pub second-mark : getD l (at + 1) 0 ≡ f .second
+  pub second-mark : (eqb (getD l (at + 1) 0) (f .second) || eqb (getD l (at + 1) 0) (f .other)) ≡ true
 
 -- "Whole records with known marks, in the order of kinds": d devices, a areas, s sub-areas, and nothing else
 pub record Whole (l : List ℕ) (d a s : ℕ) : Type 0 where

@@ -16,6 +16,8 @@ pub struct DeviceRecord {
     pub start: u32,
     pub length: u32,
     pub poll_limit: u16,
+    // document 02, 02: the chip can pause an erase
+    pub suspends: bool,
 }
 
 // An area's part of the job store.
@@ -72,6 +74,7 @@ impl DeviceRecord {
             start: 0,
             length: 0,
             poll_limit: 0,
+            suspends: false,
         }
     }
 
@@ -82,10 +85,12 @@ impl DeviceRecord {
         let start = u32_at(bytes, at + 2);
         let length = u32_at(bytes, at + 6);
         let poll_limit = u16_at(bytes, at + 10);
+        let mark = bytes[at + 1];
         DeviceRecord {
             start,
             length,
             poll_limit,
+            suspends: mark == b'S',
         }
     }
 }

@@ -8,6 +8,8 @@ ghost use Rattle.plan.specs.Records.{isRecord, recordsFrom, recordLayout
 pub struct RecordFormat {
     pub first: u8,
     pub second: u8,
+    // another second byte that will do
+    pub other: u8,
     pub size: usize,
 }
 
@@ -22,7 +24,10 @@ fn is_record(bytes: &[u8], at: usize, format: RecordFormat) -> bool
     if bytes[at] != format.first {
         return false;
     }
-    bytes[at + 1] == format.second
+    if bytes[at + 1] == format.second {
+        return true;
+    }
+    bytes[at + 1] == format.other
 }
 
 // Records of one format, one behind the other: how many, and where they end.
@@ -65,6 +70,7 @@ pub fn record_layout(bytes: &[u8]) -> RecordLayout
         RecordFormat {
             first: b'D',
             second: b'V',
+            other: b'S',
             size: 12,
         },
     );
@@ -74,6 +80,7 @@ pub fn record_layout(bytes: &[u8]) -> RecordLayout
         RecordFormat {
             first: b'A',
             second: b'R',
+            other: b'R',
             size: 16,
         },
     );
@@ -83,6 +90,7 @@ pub fn record_layout(bytes: &[u8]) -> RecordLayout
         RecordFormat {
             first: b'S',
             second: b'B',
+            other: b'B',
             size: 38,
         },
     );

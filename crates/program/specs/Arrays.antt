@@ -7,9 +7,9 @@ use native.Mathlib.Omega.{arith}
 use borrow.Author.Tests.{le-ltb, ne-eqb}
 use Rattle.arith.specs.Cases.{by-ltb}
 use Rattle.arith.specs.Tables.{table, length-table, table-at}
-use Rattle.machine.specs.Arrays.{job-past, state-past}
-use Rattle.machine.specs.Sound.{jobIn, stateIn, coreIn}
-use Rattle.rounds.specs.Close.{closed, waitsIn, areaAfter, areasAfter, deviceAfter, devicesAfter}
+use Rattle.machine.specs.Arrays.{job-past, device-past}
+use Rattle.machine.specs.Sound.{jobIn, deviceIn, coreIn}
+use Rattle.rounds.specs.Close.{closed, waitsIn, areaAfter, areasAfter, devicesAfter}
 use Rattle.rules.specs.Layout.{Layout}
 use Rattle.rules.specs.Machine.{Core, isPending, waitOf}
 use Rattle.rules.specs.RankLaws.{AgesApart}
@@ -17,7 +17,6 @@ use Rattle.rules.specs.Ranks.{agesAfter}
 use Rattle.state.specs.Ages.{ageIn, age-at, age-past}
 use Rattle.state.specs.Fresh.{noJob, freshArea, freeDevice}
 use Rattle.state.specs.declared.Area.{Area}
-use Rattle.state.specs.declared.DeviceState.the-variants.{Free}
 
 -- the arrays when a round closes
 module _ (p : Layout) (before : List Area) (after : Core) where
@@ -27,7 +26,7 @@ module _ (p : Layout) (before : List Area) (after : Core) where
 
   pub devices-after-length : length (devicesAfter after) ≡ 4
   unfolding devicesAfter
-  devices-after-length = length-table 4 (deviceAfter after) freeDevice 4
+  devices-after-length = length-table 4 (after .devices) freeDevice 4
 
   pub waits-after : (a : ℕ) → a < 8 →
       waitsIn (areasAfter p before after) a
@@ -36,10 +35,10 @@ module _ (p : Layout) (before : List Area) (after : Core) where
   waits-after a h = ap (λ x. x .waits) (table-at 8 (areaAfter p before after) freshArea 8 a freshArea h (omega arith))
 
   -- they hold all of a core that has nothing past them
-  pub core-after : ((a : ℕ) → 8 ≤ a → after .jobs a ≡ noJob) → ((d : ℕ) → 4 ≤ d → after .devices d ≡ Free) →
+  pub core-after : ((a : ℕ) → 8 ≤ a → after .jobs a ≡ noJob) → ((d : ℕ) → 4 ≤ d → after .devices d ≡ freeDevice) →
       coreIn (areasAfter p before after) (devicesAfter after) ≡ after
   unfolding areasAfter devicesAfter
-  core-after idle free = λ i. record { jobs = λ a. job a i; devices = λ d. state d i }
+  core-after idle free = λ i. record { jobs = λ a. job a i; devices = λ d. device d i }
     where
       job : (a : ℕ) → jobIn (areasAfter p before after) a ≡ after .jobs a
       job a =
@@ -47,11 +46,11 @@ module _ (p : Layout) (before : List Area) (after : Core) where
           (λ _ h. ap (λ x. x .job) (table-at 8 (areaAfter p before after) freshArea 8 a freshArea h (omega arith)))
           (λ _ h. job-past (areasAfter p before after) a (omega (arith, areas-after-length)) ∙ sym (idle a h))
 
-      state : (d : ℕ) → stateIn (devicesAfter after) d ≡ after .devices d
-      state d =
+      device : (d : ℕ) → deviceIn (devicesAfter after) d ≡ after .devices d
+      device d =
           by-ltb d 4
-          (λ _ h. ap (λ x. x .state) (table-at 4 (deviceAfter after) freeDevice 4 d freeDevice h (omega arith)))
-          (λ _ h. state-past (devicesAfter after) d (omega (arith, devices-after-length)) ∙ sym (free d h))
+          (λ _ h. table-at 4 (after .devices) freeDevice 4 d freeDevice h (omega arith))
+          (λ _ h. device-past (devicesAfter after) d (omega (arith, devices-after-length)) ∙ sym (free d h))
 
 -- the ages after an acceptance hold all that the rules say of them
 module _ (l : List ℕ) (apart : AgesApart (ageIn l)) (a : ℕ) (known : a < 8) where

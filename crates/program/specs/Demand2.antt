@@ -9,7 +9,7 @@ use Rattle.manager.specs.declared.Manager.{Manager}
 use Rattle.rules.specs.Admitted.{job-admitted}
 use Rattle.rules.specs.History.{Call, submit, cancels, round, History, step}
 use Rattle.rules.specs.Layout.{layoutOf}
-use Rattle.rules.specs.Machine.{Core, isPending, isCancelling, isOwn, waitOf}
+use Rattle.rules.specs.Machine.{Core, isPending, isCancelling, need, holds}
 use Rattle.rules.specs.Reach.{requestOf}
 use Rattle.rules.specs.Results.{Ends}
 use Rattle.rules.specs.Round.{windowPlace}
@@ -50,10 +50,10 @@ module _ (m : Manager) (h : History) (S : Stands (m .plan) m (beside m h)) (r : 
               facts .5,
             );
         accepted-cancel = λ e.
-            let own = isOwn (waitOf (layoutOf (m .plan)) (coreOf m) a) in
+            let held = holds a (coreOf m .devices (need (layoutOf (m .plan)) a (coreOf m .jobs a))) in
             after-call (cancels a)
             (λ c. let j = c .jobs a in
-            (own ≡ false → (isPending j ≡ false) × (j .result .0 ≡ 3)) × (own ≡ true → (isPending j ≡ true) × (isCancelling (j .status) ≡ true)))
+            (held ≡ false → (isPending j ≡ false) × (j .result .0 ≡ 3)) × (held ≡ true → (isPending j ≡ true) × (isCancelling (j .status) ≡ true)))
             (D .accepted-cancel (sym (answer-is m r (cancels a) h) ∙ e));
         result-so = λ k.
             after-call k

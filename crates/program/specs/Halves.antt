@@ -48,7 +48,7 @@ module _ (p : Plan) (ages : ℕ → ℕ) (answers : List DeviceAnswer) (h : Half
   answers-leave-job zero a idle = refl
   answers-leave-job (suc n) a idle =
       take-case p n (answerOf answers n) (takeAll p answers n h) a (λ j _. j ≡ h .core .jobs a)
-      (λ q e. absurd (true≢false (sym (running-on reach (sym (untouched p answers h reach n n (le-refl n) .device) ∙ e) .pending) ∙ idle)))
+      (λ q e. absurd (true≢false (sym (running-on reach (sym (ap (λ x. x .state) (untouched p answers h reach n n (le-refl n) .device)) ∙ e) .pending) ∙ idle)))
       (answers-leave-job n a idle)
 
   -- so a round leaves an area that is not pending

@@ -107,7 +107,7 @@ fresh-stands p =
       plan = refl;
       areas-length = refl;
       devices-length = refl;
-      core = λ i. record { jobs = λ a. all-same 8 freshArea a i .job; devices = λ d. all-same 4 freeDevice d i .state };
+      core = λ i. record { jobs = λ a. all-same 8 freshArea a i .job; devices = λ d. all-same 4 freeDevice d i };
       ages = fun-ext first-age;
       waits = λ a _. ap (λ x. x .waits) (all-same 8 freshArea a);
     }

@@ -12,16 +12,15 @@ use Rattle.memory.specs.declared.Task.{Task}
 use Rattle.rounds.specs.Close.{waitsIn}
 use Rattle.rules.specs.History.{noTally, History, withCore, submitted}
 use Rattle.rules.specs.Layout.{Layout, layoutOf}
-use Rattle.rules.specs.Machine as Machine
-use Rattle.rules.specs.Machine.{Core, withJob, isOwn, waitOf, begun, begin, cancelIf, cancel, release}
+use Rattle.rules.specs.Machine.{Core, withJob, need, holds, begun, begin, cancelIf, cancel, release}
 use Rattle.rules.specs.RankLaws.{AgesApart}
 use Rattle.rules.specs.SecondHalf.{Busy}
 use Rattle.state.specs.Fresh.{noWaits, freshArea}
-use Rattle.state.specs.declared.DeviceState.{DeviceState}
-use Rattle.state.specs.declared.DeviceState.the-variants.{Free, LockedFor}
+use Rattle.state.specs.declared.Device.{Device}
+use Rattle.state.specs.declared.DeviceState.the-variants.{LockedFor}
 use Rattle.state.specs.declared.Job.{Job}
 use Rattle.state.specs.declared.Waits.{Waits}
-use Rattle.machine.specs.Arrays.{view-set, job-set, state-set, state-past}
+use Rattle.machine.specs.Arrays.{view-set, job-set, device-set, state-past}
 use Rattle.program.specs.Arrays.{ages-set}
 use Rattle.program.specs.Stands.{stuck, agesOf, beside, Stands}
 
@@ -32,15 +31,15 @@ begun-core p a t c = ap (λ j. withJob a j c) (upd-same (c .jobs) a (begun p a t
 
 cancelled-core : (p : Layout) (a : ℕ) (c : Core) → withJob a (cancel p a c .jobs a) c ≡ cancel p a c
 unfolding cancel
-cancelled-core p a c = go (isOwn (waitOf p c a))
+cancelled-core p a c = go (holds a (c .devices (need p a (c .jobs a))))
   where
     go : (t : Bool) → withJob a (cancelIf t a c .jobs a) c ≡ cancelIf t a c
     go true = ap (λ j. withJob a j c) (upd-same (c .jobs) a _)
     go false = ap (λ j. withJob a j c) (upd-same (c .jobs) a _)
 
-released-core : (d : ℕ) (c : Core) → Machine.withDevice d (release d c .devices d) c ≡ release d c
+released-core : (d : ℕ) (c : Core) → record { jobs = c .jobs; devices = upd (c .devices) d (release d c .devices d) } ≡ release d c
 unfolding release
-released-core d c = ap (λ x. Machine.withDevice d x c) (upd-same (c .devices) d Free)
+released-core d c = ap (λ x. record { jobs = c .jobs; devices = upd (c .devices) d x }) (upd-same (c .devices) d _)
 
 module _ (m : Manager) (h : History) (S : Stands (m .plan) m (beside m h)) where
   -- area a gets job j and waits w
@@ -49,10 +48,10 @@ module _ (m : Manager) (h : History) (S : Stands (m .plan) m (beside m h)) where
       let e = job-set (m .areas) a (record { job = j; waits = w }) (rw (S .areas-length) l) in
       λ i. record { jobs = e i; devices = coreOf m .devices }
 
-  -- device d gets state x
-  device-core : (d : ℕ) (x : DeviceState) → d < 4 → coreOf (withDevice d x m) ≡ Machine.withDevice d x (coreOf m)
+  -- device d becomes x
+  device-core : (d : ℕ) (x : Device) → d < 4 → coreOf (withDevice d x m) ≡ record { jobs = coreOf m .jobs; devices = upd (coreOf m .devices) d x }
   device-core d x l =
-      let e = state-set (m .devices) d (record { state = x }) (rw (S .devices-length) l) in
+      let e = device-set (m .devices) d x (rw (S .devices-length) l) in
       λ i. record { jobs = coreOf m .jobs; devices = e i }
 
   -- the waits of the areas when area a gets job j and waits w
@@ -96,13 +95,13 @@ module _ (m : Manager) (h : History) (S : Stands (m .plan) m (beside m h)) where
       }
 
   -- a device that is locked is one of the manager's
-  locked-known : (d a : ℕ) → coreOf m .devices d ≡ LockedFor a → d < 4
+  locked-known : (d a : ℕ) → coreOf m .devices d .state ≡ LockedFor a → d < 4
   locked-known d a e =
       by-ltb d 4 (λ _ l. l)
       (λ _ l. absurd (subst Busy (state-past (m .devices) d (omega (arith, S .devices-length))) (subst Busy (sym e) tt)))
 
   -- an accepted release
-  pub release-kept : (d a : ℕ) → coreOf m .devices d ≡ LockedFor a → let e = release d (coreOf m) in
+  pub release-kept : (d a : ℕ) → coreOf m .devices d .state ≡ LockedFor a → let e = release d (coreOf m) in
       Stands (m .plan) (withDevice d (e .devices d) m) (withCore e (beside m h))
   release-kept d a e =
       record {

@@ -12,10 +12,9 @@ use Rattle.rules.specs.History.{Tally, count, close, History, lent, roundOf}
 use Rattle.rules.specs.Machine.{Wait, own, above, below, locked, none, isPending, waitOf}
 use Rattle.rules.specs.Memory.{Memory}
 use Rattle.rules.specs.Round.{Half, roundHalves}
-use Rattle.state.specs.Fresh.{noJob}
-use Rattle.state.specs.declared.DeviceState.the-variants.{Free}
+use Rattle.state.specs.Fresh.{noJob, freeDevice}
 use Rattle.program.specs.Answers.{Reached, halves-are}
-use Rattle.machine.specs.Arrays.{job-past, state-past}
+use Rattle.machine.specs.Arrays.{job-past, device-past}
 use Rattle.program.specs.Arrays.{areas-after-length, devices-after-length, waits-after, core-after}
 use Rattle.program.specs.Halves.{round-leaves-job, round-leaves-device}
 use Rattle.program.specs.Stands.{stuck, agesOf, beside, Stands}
@@ -51,11 +50,11 @@ module _ (m : Manager) (h : History) (S : Stands (m .plan) m (beside m h)) (r : 
       let e = job-past (m .areas) a (omega (arith, S .areas-length)) in
       round-leaves-job (m .plan) (agesOf m) answers (lent given (beside m h)) (r .reachable) a (ap isPending e) ∙ e
 
-  free-past : (d : ℕ) → 4 ≤ d → half .core .devices d ≡ Free
+  free-past : (d : ℕ) → 4 ≤ d → half .core .devices d ≡ freeDevice
   unfolding half
   free-past d l =
       round-leaves-device (m .plan) (agesOf m) answers (lent given (beside m h)) (r .reachable) d (omega (arith, r .well .device-most))
-      ∙ state-past (m .devices) d (omega (arith, S .devices-length))
+      ∙ device-past (m .devices) d (omega (arith, S .devices-length))
 
   -- with the history's halves
   half-kept : Stands (m .plan)

@@ -21,7 +21,7 @@ use Rattle.plan.specs.declared.records.Plan.{Plan}
 use Rattle.rounds.specs.Close.{waitsIn}
 use Rattle.rules.specs.History.{jobInfo, Call, submit, cancels, asks, round, History, start, step, run}
 use Rattle.rules.specs.Layout.{priorityOf, layoutOf}
-use Rattle.rules.specs.Machine.{isPending, isCancelling, isOwn, waitOf}
+use Rattle.rules.specs.Machine.{isPending, isCancelling, need, holds}
 use Rattle.rules.specs.Memory.{Memory}
 use Rattle.rules.specs.Reach.{callNumber, isRound, requestOf}
 use Rattle.rules.specs.Results.{Ends}
@@ -61,13 +61,13 @@ pub record Demand2 (p : Plan) (m : Manager) (h : History) (a : ℕ) : Type 0 whe
       (x y : ℕ) → x < t .length → y < t .length → mappedByte p a t x ≡ mappedByte p a t y → x ≡ y
   -- "writes take them from it"
   pub done-write : (answers : List DeviceAnswer) (lent : Memory) → let k = round answers lent in answerOf k m ≡ 0 → (d polls : ℕ) →
-      coreOf m .devices d ≡ Runs a polls → answerFor answers d ≡ Answers.Done → coreOf m .jobs a .task .kind ≡ Write →
+      coreOf m .devices d .state ≡ Runs a polls → answerFor answers d ≡ Answers.Done → coreOf m .jobs a .task .kind ≡ Write →
       (x : ℕ) → x < requestOf p (coreOf m) a .length →
       getD (memoryAfter k m lent .image) (requestOf p (coreOf m) a .start .0 + x) 0
       ≡ getD (lent .store) (windowPlace p a (coreOf m .jobs a) + x) 0
   -- "reads bring those bytes to the store"
   pub done-read : (answers : List DeviceAnswer) (lent : Memory) → let k = round answers lent in answerOf k m ≡ 0 → (d polls : ℕ) →
-      coreOf m .devices d ≡ Runs a polls → answerFor answers d ≡ Answers.Done → coreOf m .jobs a .task .kind ≡ Read →
+      coreOf m .devices d .state ≡ Runs a polls → answerFor answers d ≡ Answers.Done → coreOf m .jobs a .task .kind ≡ Read →
       (x : ℕ) → x < requestOf p (coreOf m) a .length →
       getD (memoryAfter k m lent .store) (windowPlace p a (coreOf m .jobs a) + x) 0
       ≡ getD (lent .image) (requestOf p (coreOf m) a .start .0 + x) 0
@@ -81,8 +81,8 @@ pub record Demand2 (p : Plan) (m : Manager) (h : History) (a : ℕ) : Type 0 whe
       × (step p k h .done a ≡ [])
   -- "A cancel ends a job without a running request immediately, result 3. With one running, the area stays pending"
   pub accepted-cancel : let k = cancels a in answerOf k m ≡ 0 → let j = coreOf (after k m) .jobs a in
-      (isOwn (waitOf (layoutOf p) (coreOf m) a) ≡ false → (isPending j ≡ false) × (j .result .0 ≡ 3))
-      × (isOwn (waitOf (layoutOf p) (coreOf m) a) ≡ true → (isPending j ≡ true) × (isCancelling (j .status) ≡ true))
+      (holds a (coreOf m .devices (need (layoutOf p) a (coreOf m .jobs a))) ≡ false → (isPending j ≡ false) × (j .result .0 ≡ 3))
+      × (holds a (coreOf m .devices (need (layoutOf p) a (coreOf m .jobs a))) ≡ true → (isPending j ≡ true) × (isCancelling (j .status) ≡ true))
   -- a job that a call ends has its result by the rules, and there are no others
   pub result-so : (k : Call) → let e = coreOf (after k m) in isPending (coreOf m .jobs a) ≡ true → isPending (e .jobs a) ≡ false →
       Ends p (beside m h) e a k (e .jobs a .result .0) × (e .jobs a .result .0 ≤ 3)

@@ -21,7 +21,7 @@ use Rattle.plan.specs.declared.records.Plan.{Plan}
 use Rattle.plan.specs.declared.records.SubAreaRecord.{SubAreaRecord}
 use Rattle.rules.specs.Admission.{usesWindow, ifAsked, imageFits, storeReaches}
 use Rattle.rules.specs.Layout.{Layout, layoutOf}
-use Rattle.rules.specs.Machine.{Core, Verdict, goesOn, finished, differs, failed, due, withBoth, jobFailed, jobFinished, jobDiffers, afterFinished, isCancelling, isPending, takeRunning}
+use Rattle.rules.specs.Machine.{Core, Verdict, goesOn, finished, differs, failed, due, doing, withBoth, jobFailed, jobFinished, jobDiffers, afterFinished, isCancelling, isPending, takeRunning}
 use Rattle.rules.specs.Memory.{Memory, agrees, verdictOf, memoryAfter}
 use Rattle.rules.specs.Round.{windowPlace}
 use Rattle.segment.specs.Found.{segmentFrom, segment-from}
@@ -104,7 +104,7 @@ taken-core p d a polls failed c = refl
 taken-core p d a polls goesOn c =
     by-leb (p .limit d) (polls + 1)
     (λ e h. rw (e, le-ltb _ _ h))
-    (λ e h. rw (e, lt-ltb _ _ h) (ap (λ f. record { jobs = f; devices = upd (c .devices) d (Runs a (polls + 1)) }) (same-map (c .jobs) a)))
+    (λ e h. rw (e, lt-ltb _ _ h) (ap (λ f. record { jobs = f; devices = upd (c .devices) d (doing (Runs a (polls + 1)) (c .devices d)) }) (same-map (c .jobs) a)))
 
 -- what a driver gets of the store is there
 lent-asked : (k : JobType) (w n s : ℕ) (q : Bool) → ifAsked (usesWindow k) q ≡ true → (q ≡ true → w + n ≤ s) → lentEnd k w n ≤ s

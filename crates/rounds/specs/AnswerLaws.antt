@@ -9,13 +9,13 @@ use borrow.Author.Tests.{eqb-true}
 use Rattle.arith.specs.Bounded.{every-elim}
 use Rattle.arith.specs.Parts.{upd, upd-other, upd-case}
 use Rattle.arith.specs.Plain.{and-plain}
-use Rattle.machine.specs.Arrays.{job-set, state-set}
-use Rattle.machine.specs.Sound.{jobIn, stateIn, coreIn, segmentFits, requestSound, stateSound, isSound}
+use Rattle.machine.specs.Arrays.{job-set, device-set}
+use Rattle.machine.specs.Sound.{jobIn, deviceIn, stateIn, coreIn, segmentFits, requestSound, stateSound, isSound}
 use Rattle.memory.specs.declared.DeviceAnswer.{DeviceAnswer}
 use Rattle.plan.specs.declared.records.Plan.{Plan}
 use Rattle.rules.specs.Admission.{imageFits, storeReaches}
 use Rattle.rules.specs.Layout.{layoutOf}
-use Rattle.rules.specs.Machine.{Core, Verdict, withBoth, takeOn, takeAnswer}
+use Rattle.rules.specs.Machine.{Core, Verdict, doing, takeOn, takeAnswer}
 use Rattle.rules.specs.Memory.{Memory}
 use Rattle.rules.specs.Round.{Half, takeIn, takeAll}
 use Rattle.segment.specs.Segments.{segmentAt}
@@ -29,14 +29,20 @@ use Rattle.requests.specs.Requests.{requestVerdict, requestJob, requestState, r
 
 -- both arrays with one entry changed
 pub core-set : (areas : List Area) (devices : List Device) (a : ℕ) (x : Area) (d : ℕ) (y : Device) → a < length areas → d < length devices →
-    coreIn (set areas a x) (set devices d y) ≡ withBoth a (x .job) d (y .state) (coreIn areas devices)
-core-set areas devices a x d y h k = λ i. record { jobs = job-set areas a x h i; devices = state-set devices d y k i }
+    coreIn (set areas a x) (set devices d y) ≡ record { jobs = upd (jobIn areas) a (x .job); devices = upd (deviceIn devices) d y }
+core-set areas devices a x d y h k = λ i. record { jobs = job-set areas a x h i; devices = device-set devices d y k i }
 
--- both arrays with an entry set to what it is
+-- the areas with an entry set to what it is
+pub device-changed : (areas : List Area) (devices : List Device) (a : ℕ) (x : Area) (d : ℕ) (y : Device) → a < length areas → d < length devices →
+    x .job ≡ jobIn areas a → coreIn (set areas a x) (set devices d y) ≡ record { jobs = jobIn areas; devices = upd (deviceIn devices) d y }
+device-changed areas devices a x d y h k e =
+    core-set areas devices a x d y h k ∙ rw e (λ i. record { jobs = sym (same-map (jobIn areas) a) i; devices = upd (deviceIn devices) d y })
+
+-- and the devices
 pub core-kept : (areas : List Area) (devices : List Device) (a : ℕ) (x : Area) (d : ℕ) (y : Device) → a < length areas → d < length devices →
-    x .job ≡ jobIn areas a → y .state ≡ stateIn devices d → coreIn (set areas a x) (set devices d y) ≡ coreIn areas devices
+    x .job ≡ jobIn areas a → y ≡ deviceIn devices d → coreIn (set areas a x) (set devices d y) ≡ coreIn areas devices
 core-kept areas devices a x d y h k e f =
-    core-set areas devices a x d y h k ∙ rw (e, f) (λ i. record { jobs = sym (same-map (jobIn areas) a) i; devices = sym (same-map (stateIn devices) d) i })
+    device-changed areas devices a x d y h k e ∙ rw f (λ i. record { jobs = jobIn areas; devices = sym (same-map (deviceIn devices) d) i })
 
 module _ (p : Plan) (d : ℕ) (x : DeviceAnswer) (areas : List Area) (devices : List Device) (m : Memory) where
   -- "The answer for a device with nothing running is ignored."
@@ -58,7 +64,7 @@ module _ (p : Plan) (d : ℕ) (x : DeviceAnswer) (areas : List Area) (devices : 
 
   module _ (a polls : ℕ) (e : stateIn devices d ≡ Runs a polls) where
     pub runs-core : (y : Area) (z : Device) → a < length areas → d < length devices → y .job ≡ requestJob p d a polls (jobIn areas a) x m →
-        z .state ≡ requestState p d a polls (jobIn areas a) x m →
+        z ≡ doing (requestState p d a polls (jobIn areas a) x m) (deviceIn devices d) →
         coreIn (set areas a y) (set devices d z) ≡ takeIn p d x (lentTo areas devices m) .core
     unfolding takeIn takeAnswer layoutOf
     runs-core y z h k f g = core-set areas devices a y d z h k ∙ rw (f, g, e) (sym (taken-core (layoutOf p) d a polls (requestVerdict p a (jobIn areas a) x m) (coreIn areas devices)))
@@ -73,8 +79,8 @@ unfolding requestSound segmentFits
 request-device p d a polls j e = eqb-true _ _ ((simp and-plain at e) .1 .1 .0)
 
 -- so two devices do not run for one area, and the answer of one leaves the others sound
-module _ (p : Plan) (d k : ℕ) (apart : d ≡ k → ⊥) (v : Verdict) (c : Core) (here : stateSound p d (c .jobs) (c .devices d) ≡ true) where
-  other-sound : (a polls : ℕ) (j : Job) → c .devices d ≡ Runs a polls → (y : DeviceState) → stateSound p k (c .jobs) y ≡ true →
+module _ (p : Plan) (d k : ℕ) (apart : d ≡ k → ⊥) (v : Verdict) (c : Core) (here : stateSound p d (c .jobs) (c .devices d .state) ≡ true) where
+  other-sound : (a polls : ℕ) (j : Job) → c .devices d .state ≡ Runs a polls → (y : DeviceState) → stateSound p k (c .jobs) y ≡ true →
       stateSound p k (upd (c .jobs) a j) y ≡ true
   other-sound a polls j e Free f = refl
   other-sound a polls j e (LockedFor b) f = refl
@@ -84,22 +90,22 @@ module _ (p : Plan) (d k : ℕ) (apart : d ≡ k → ⊥) (v : Verdict) (c : Cor
       ∙ request-device p k b q (c .jobs b) f)))
       (λ _. f)
 
-  pub stays-sound : stateSound p k (c .jobs) (c .devices k) ≡ true →
-      stateSound p k (takeAnswer (layoutOf p) d v c .jobs) (takeAnswer (layoutOf p) d v c .devices k) ≡ true
+  pub stays-sound : stateSound p k (c .jobs) (c .devices k .state) ≡ true →
+      stateSound p k (takeAnswer (layoutOf p) d v c .jobs) (takeAnswer (layoutOf p) d v c .devices k .state) ≡ true
   unfolding takeAnswer
-  stays-sound f = go (c .devices d) refl
+  stays-sound f = go (c .devices d .state) refl
     where
-      go : (x : DeviceState) → c .devices d ≡ x → stateSound p k (takeOn (layoutOf p) d v x c .jobs) (takeOn (layoutOf p) d v x c .devices k) ≡ true
+      go : (x : DeviceState) → c .devices d .state ≡ x → stateSound p k (takeOn (layoutOf p) d v x c .jobs) (takeOn (layoutOf p) d v x c .devices k .state) ≡ true
       go Free e = f
       go (LockedFor a) e = f
       go (Runs a polls) e =
-          rw (taken-core (layoutOf p) d a polls v c, upd-other (c .devices) d k _ apart) (other-sound a polls _ e (c .devices k) f)
+          rw (taken-core (layoutOf p) d a polls v c, upd-other (c .devices) d k _ apart) (other-sound a polls _ e (c .devices k .state) f)
 
 -- in the first half every device that has not had its turn is sound
 pub later-sound : (p : Plan) (answers : List DeviceAnswer) (h : Half) →
-    ((d : ℕ) → d < p .«device_count» → stateSound p d (h .core .jobs) (h .core .devices d) ≡ true) →
+    ((d : ℕ) → d < p .«device_count» → stateSound p d (h .core .jobs) (h .core .devices d .state) ≡ true) →
     (n k : ℕ) → n ≤ k → k < p .«device_count» →
-    stateSound p k (takeAll p answers n h .core .jobs) (takeAll p answers n h .core .devices k) ≡ true
+    stateSound p k (takeAll p answers n h .core .jobs) (takeAll p answers n h .core .devices k .state) ≡ true
 unfolding takeAll takeIn
 later-sound p answers h all zero k l m = all k m
 later-sound p answers h all (suc n) k l m =
@@ -109,7 +115,7 @@ later-sound p answers h all (suc n) k l m =
 -- what a sound state has for the loop
 module _ (p : Plan) (areas : List Area) (devices : List Device) (sound : isSound p areas devices ≡ true) where
   pub turn-sound : (answers : List DeviceAnswer) (m : Memory) (n : ℕ) (c : Core) → c ≡ takeAll p answers n (lentTo areas devices m) .core → n < p .«device_count» →
-      stateSound p n (c .jobs) (c .devices n) ≡ true
+      stateSound p n (c .jobs) (c .devices n .state) ≡ true
   unfolding isSound
   turn-sound answers m n c e l =
       rw e (later-sound p answers (lentTo areas devices m) (every-elim _ _ ((simp and-plain at sound) .1)) n n (omega arith) l)

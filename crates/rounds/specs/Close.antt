@@ -54,11 +54,8 @@ areaAfter p before after a =
 unfoldable pub areasAfter : Layout → List Area → Core → List Area
 areasAfter p before after = table 8 (areaAfter p before after) freshArea 8
 
-abbrev pub deviceAfter : Core → ℕ → Device
-deviceAfter after d = record { state = after .devices d }
-
 unfoldable pub devicesAfter : Core → List Device
-devicesAfter after = table 4 (deviceAfter after) freeDevice 4
+devicesAfter after = table 4 (after .devices) freeDevice 4
 
 -- both halves of a round, on the arrays and the lent memory. The list of requests done, which demand 2 speaks of, is kept by the
 -- wait history alone.

@@ -33,7 +33,7 @@ waitIs Waiting.Nothing = Machine.none
 
 -- what the rank of areas asks of a plan
 abbrev pub rankLayout : List AreaRecord → List ℕ → Layout
-rankLayout records ages = needsLayout records ages 0 []
+rankLayout records ages = needsLayout records ages 0 [] []
 
 -- an area when the round closes, by the state of the device that its job needs
 abbrev pub closedArea : List AreaRecord → List ℕ → ℕ → Area → Area → DeviceState → Area
@@ -64,7 +64,7 @@ module _ (records : List AreaRecord) (ages : List ℕ) (a b : ℕ) where
 
 -- the same by the layout with the needs
 wait-same : (records : List AreaRecord) (ages needs : List ℕ) (a : ℕ) (x : DeviceState) →
-    Machine.waitOn (rankLayout records ages) a x ≡ Machine.waitOn (needsLayout records ages 0 needs) a x
+    Machine.waitOn (rankLayout records ages) a x ≡ Machine.waitOn (needsLayout records ages 0 [] needs) a x
 unfolding Machine.behind needsLayout
 wait-same records ages needs a Free = refl
 wait-same records ages needs a (LockedFor b) = refl
@@ -72,7 +72,7 @@ wait-same records ages needs a (Runs b polls) = refl
 
 pub close-turn : (records : List AreaRecord) (ages needs : List ℕ) (before after : List Area) (devices : List Device) (a : ℕ) (x : DeviceState) →
     x ≡ stateIn devices (getD needs a 0) →
-    closedArea records ages a (getD before a freshArea) (getD after a freshArea) x ≡ areaAfter (needsLayout records ages 0 needs) before (coreIn after devices) a
+    closedArea records ages a (getD before a freshArea) (getD after a freshArea) x ≡ areaAfter (needsLayout records ages 0 [] needs) before (coreIn after devices) a
 unfolding needsLayout
 close-turn records ages needs before after devices a x e =
     ap (λ k. record { job = jobIn after a; waits = closed (Machine.isPending (jobIn before a)) (Machine.isPending (jobIn after a)) k (waitsIn before a) })

@@ -1,32 +1,39 @@
 -- The second half of a round: the code's choice is that of the rules.
 use Prim.Native.Nat.{ℕ, zero, suc, _+_, _≤_, _<_}
-use mathlib.Core.Bool.{Bool, true, false, false≢true, true≢false}
+use mathlib.Core.Bool.{Bool, true, false≢true, _&&_}
 use mathlib.Core.List.{List}
 use mathlib.Core.Path.{_≡_, refl, sym, ap, subst, _∙_}
 use native.Mathlib.Numerals.{add-one}
 use native.Mathlib.Omega.{arith}
 use borrow.Author.Tests.{lt-ltb}
+use lib.Dec.{ltb}
 use lib.ListN.{length, getD, set}
-use Rattle.arith.specs.Cases.{pick, by-bool}
+use Rattle.arith.specs.Cases.{pick, by-bool, by-ltb}
 use Rattle.arith.specs.Parts.{upd}
-use Rattle.machine.specs.Sound.{jobIn, stateIn, coreIn}
-use Rattle.plan.specs.Questions.{areaOf}
+use Rattle.machine.specs.Arrays.{job-past}
+use Rattle.machine.specs.Dues.{runnerOf}
+use Rattle.machine.specs.Sound.{jobIn, deviceIn, stateIn, coreIn}
+use Rattle.plan.specs.Questions.{areaOf, deviceOf}
 use Rattle.plan.specs.declared.records.AreaRecord.{AreaRecord}
+use Rattle.plan.specs.declared.records.DeviceRecord.{DeviceRecord}
 use Rattle.rules.specs.Layout.{Layout}
-use Rattle.rules.specs.Machine.{Core, Choice, nobody, area, ready, better, best, startJob, startChoice, startOn, start, secondHalf}
+use Rattle.rules.specs.Machine.{Core, doing, Choice, nobody, area, ready, better, best, displaces, startJob, startChoice, eraseOr, eraseOrChoice, startOn, start, secondHalf}
 use Rattle.rules.specs.Ranks.{rankAbove, ranksAbove}
-use Rattle.segment.specs.Segments.{isLock}
+use Rattle.segment.specs.Segments.{isLock, isErase}
 use Rattle.state.specs.Ages.{ageIn}
 use Rattle.state.specs.Fresh.{freshArea, freeDevice}
 use Rattle.state.specs.declared.Area.{Area}
 use Rattle.state.specs.declared.Device.{Device}
 use Rattle.state.specs.declared.DeviceState.{DeviceState}
 use Rattle.state.specs.declared.DeviceState.the-variants.{Free, Runs, LockedFor}
-use Rattle.requests.specs.Requests.{same-map}
-use Rattle.rounds.specs.AnswerLaws.{core-set, core-kept}
-use Rattle.rounds.specs.Picks.{needsLayout, betterOf, bestTo, readyIn, isFree, chosenIn, startOf, startWith}
+use Rattle.state.specs.declared.Suspended.{Suspended}
+use Rattle.state.specs.declared.Suspended.the-variants as Kept
+use Rattle.rounds.specs.AnswerLaws.{core-set, device-changed, core-kept}
+use Rattle.rounds.specs.Picks.{needsLayout, betterOf, bestTo, readyIn, slotOf, isTaken, chosenIn, startOf, startWith}
 use Rattle.rounds.specs.declared.picks.Best.{Best}
 use Rattle.rounds.specs.declared.picks.Best.the-variants as Bests
+use Rattle.rounds.specs.declared.picks.Slot.{Slot}
+use Rattle.rounds.specs.declared.picks.Slot.the-variants as Slots
 use Rattle.rounds.specs.declared.picks.Start.{Start}
 
 -- a choice with the area's priority and age beside it
@@ -34,17 +41,29 @@ abbrev withRank : List AreaRecord → List ℕ → Choice → Best
 withRank records ages nobody = Bests.Nobody
 withRank records ages (area a) = Bests.Area a (areaOf records a .priority) (ageIn ages a)
 
-abbrev isArea : Best → Bool
-isArea Bests.Nobody = false
-isArea (Bests.Area a q x) = true
+-- and without
+abbrev choiceOf : Best → Choice
+choiceOf Bests.Nobody = nobody
+choiceOf (Bests.Area a q x) = area a
 
-abbrev areaIn : ℕ → Best → ℕ
-areaIn z Bests.Nobody = z
-areaIn z (Bests.Area a q x) = a
+without-rank : (records : List AreaRecord) (ages : List ℕ) (x : Choice) → choiceOf (withRank records ages x) ≡ x
+without-rank records ages nobody = refl
+without-rank records ages (area a) = refl
 
-module _ (records : List AreaRecord) (ages : List ℕ) (count : ℕ) (needs : List ℕ) (d : ℕ) (areas : List Area) (devices : List Device) where
+-- what the rules make of a choice, by what the device has
+abbrev startAt : ℕ → Slot → Choice → Core → Core
+startAt d Slots.Taken x c = c
+startAt d Slots.Free x c = startChoice d x c
+startAt d (Slots.Erase b q) x c = eraseOrChoice d b q x c
+
+taken-any : (d : ℕ) (s : Slot) → isTaken s ≡ true → (x y : Choice) (c : Core) → startAt d s x c ≡ startAt d s y c
+taken-any d Slots.Taken e x y c = refl
+taken-any d Slots.Free e x y c = absurd (false≢true e)
+taken-any d (Slots.Erase b q) e x y c = absurd (false≢true e)
+
+module _ (records : List AreaRecord) (ages : List ℕ) (count : ℕ) (holders : List DeviceRecord) (needs : List ℕ) (d : ℕ) (areas : List Area) (devices : List Device) where
   abbrev layout : Layout
-  layout = needsLayout records ages count needs
+  layout = needsLayout records ages count holders needs
 
   better-same : (a : ℕ) (x : Choice) → betterOf a (areaOf records a .priority) (ageIn ages a) (withRank records ages x) ≡ withRank records ages (better layout a x)
   unfolding needsLayout
@@ -59,40 +78,36 @@ module _ (records : List AreaRecord) (ages : List ℕ) (count : ℕ) (needs : Li
       by-bool (readyIn needs areas d a) (λ e. rw e more) (λ e. rw e (best-same a))
 
   -- what the code found is the rules' choice
-  chosen-nobody : (x : Choice) → withRank records ages x ≡ Bests.Nobody → x ≡ nobody
-  chosen-nobody nobody e = refl
-  chosen-nobody (area a) e = absurd (true≢false (ap isArea e))
+  pub choice-same : (b : Best) → b ≡ bestTo records ages (readyIn needs areas d) count → choiceOf b ≡ best layout (coreIn areas devices) d count
+  choice-same b e = ap choiceOf (e ∙ best-same count) ∙ without-rank records ages (best layout (coreIn areas devices) d count)
 
-  chosen-area : (x : Choice) (a q y : ℕ) → withRank records ages x ≡ Bests.Area a q y → x ≡ area a
-  chosen-area nobody a q y e = absurd (false≢true (ap isArea e))
-  chosen-area (area b) a q y e = ap area (ap (areaIn b) e)
-
-  -- a device that is not free starts nothing
-  pub busy-start : isFree (stateIn devices d) ≡ false → coreIn areas devices ≡ start layout d (coreIn areas devices)
-  unfolding start
-  busy-start e = go (stateIn devices d) refl
+  -- what the device has, as the code finds it, decides as the rules do
+  pub slot-start : length areas ≡ 8 → startAt d (slotOf (deviceOf holders d .suspends) (jobIn areas (runnerOf (stateIn devices d)) .task .kind) (stateIn devices d) (deviceIn devices d .suspended))
+      (best layout (coreIn areas devices) d count) (coreIn areas devices) ≡ start layout d (coreIn areas devices)
+  unfolding start needsLayout
+  slot-start areas-are = go (stateIn devices d) (deviceIn devices d .suspended)
     where
-      go : (x : DeviceState) → stateIn devices d ≡ x → coreIn areas devices ≡ startOn layout d x (coreIn areas devices)
-      go Free f = absurd (true≢false (sym (ap isFree f) ∙ e))
-      go (Runs a polls) f = refl
-      go (LockedFor a) f = refl
+      choice : Choice
+      choice = best layout (coreIn areas devices) d count
 
-  module _ (free : isFree (stateIn devices d) ≡ true) (b : Best) (is : b ≡ bestTo records ages (readyIn needs areas d) count) where
-    free-start : (x : Choice) → best layout (coreIn areas devices) d count ≡ x → startChoice d x (coreIn areas devices) ≡ start layout d (coreIn areas devices)
-    unfolding start needsLayout
-    free-start x e = go (stateIn devices d) refl
-      where
-        go : (y : DeviceState) → stateIn devices d ≡ y → startChoice d x (coreIn areas devices) ≡ startOn layout d y (coreIn areas devices)
-        go Free f = rw e
-        go (Runs a polls) f = absurd (false≢true (sym (ap isFree f) ∙ free))
-        go (LockedFor a) f = absurd (false≢true (sym (ap isFree f) ∙ free))
+      -- an area that a manager has not got has no job
+      known : (b : ℕ) → (ltb b 8 && isErase (jobIn areas (pick (ltb b 8) b 0) .task .kind)) ≡ isErase (jobIn areas b .task .kind)
+      known b =
+          by-ltb b 8
+          (λ t h. rw t)
+          (λ t h. rw (t, job-past areas b (omega arith)))
 
-    pub nobody-start : b ≡ Bests.Nobody → coreIn areas devices ≡ start layout d (coreIn areas devices)
-    nobody-start e = free-start nobody (chosen-nobody _ (sym (best-same count) ∙ sym is ∙ e))
-
-    pub area-start : (a q y : ℕ) → b ≡ Bests.Area a q y → (c : Core) → c ≡ startJob d a (isLock (jobIn areas a .task .kind)) (coreIn areas devices) →
-        c ≡ start layout d (coreIn areas devices)
-    area-start a q y e c f = f ∙ free-start (area a) (chosen-area _ a q y (sym (best-same count) ∙ sym is ∙ e))
+      go : (x : DeviceState) (s : Suspended) →
+          startAt d (slotOf (deviceOf holders d .suspends) (jobIn areas (runnerOf x) .task .kind) x s) choice (coreIn areas devices) ≡ startOn layout d x s (coreIn areas devices)
+      go Free Kept.Nothing = refl
+      go Free (Kept.Erase b q) = refl
+      go (LockedFor a) s = refl
+      go (Runs b q) Kept.Nothing =
+          rw (known b)
+          (by-bool (deviceOf holders d .suspends)
+          (λ e. rw e (by-bool (isErase (jobIn areas b .task .kind)) (λ f. rw f) (λ f. rw f)))
+          (λ e. rw e))
+      go (Runs b q) (Kept.Erase a k) = by-bool (deviceOf holders d .suspends) (λ e. rw e) (λ e. rw e)
 
 -- the choice is one of the areas looked at
 abbrev Below : ℕ → Best → Type 0
@@ -121,41 +136,78 @@ module _ (records : List AreaRecord) (ages : List ℕ) (ready : ℕ → Bool) wh
 
 -- a device's choice, in the arrays
 module _ (d : ℕ) (areas : List Area) (devices : List Device) (areas-are : length areas ≡ 8) (there : d < length devices) where
-  start-job : (a : ℕ) → a < 8 → (t : Start) → t ≡ startOf a (getD areas a freshArea) →
-      coreIn (set areas a (t .area)) (set devices d (t .device)) ≡ startJob d a (isLock (jobIn areas a .task .kind)) (coreIn areas devices)
-  start-job a h t e =
-      core-set areas devices a (t .area) d (t .device) (omega arith) there
-      ∙ by-bool (isLock (jobIn areas a .task .kind)) (λ f. rw (e, f))
-      (λ f. rw (e, f) (λ i. record { jobs = sym (same-map (jobIn areas) a) i; devices = upd (stateIn devices) d (Runs a 0) }))
+  -- the area that is chosen is one that a manager has
+  abbrev Known : Best → Type 0
+  Known Bests.Nobody = 0 ≤ 0
+  Known (Bests.Area a q x) = a < 8
 
-  module _ (records : List AreaRecord) (ages : List ℕ) (count : ℕ) (few : count ≤ 8) (needs : List ℕ) where
-    abbrev at-free : Best
-    at-free = bestTo records ages (readyIn needs areas d) count
+  chosen-few : (b : Best) → Known b → chosenIn b < 8
+  chosen-few Bests.Nobody h = omega arith
+  chosen-few (Bests.Area a q x) h = rw (lt-ltb a 8 h) h
+
+  module _ (k : ℕ) (few : k < 8) (t : Start) where
+    kept : t .area ≡ getD areas k freshArea → t .device ≡ deviceIn devices d → coreIn (set areas k (t .area)) (set devices d (t .device)) ≡ coreIn areas devices
+    kept e f = core-kept areas devices k (t .area) d (t .device) (omega arith) there (ap (λ x. x .job) e) f
+
+    moved : (y : Device) → t .area ≡ getD areas k freshArea → t .device ≡ y →
+        coreIn (set areas k (t .area)) (set devices d (t .device)) ≡ record { jobs = jobIn areas; devices = upd (deviceIn devices) d y }
+    moved y e f = device-changed areas devices k (t .area) d (t .device) (omega arith) there (ap (λ x. x .job) e) ∙ rw f
+
+    started : t ≡ startOf k (getD areas k freshArea) (deviceIn devices d) →
+        coreIn (set areas k (t .area)) (set devices d (t .device)) ≡ startJob d k (isLock (jobIn areas k .task .kind)) (coreIn areas devices)
+    started e =
+        by-bool (isLock (jobIn areas k .task .kind))
+        (λ f. core-set areas devices k (t .area) d (t .device) (omega arith) there ∙ rw (e, f))
+        (λ f. rw f (moved (doing (Runs k 0) (deviceIn devices d)) (ap (λ x. x .area) e ∙ rw f) (ap (λ x. x .device) e ∙ rw f)))
+
+    gives : (b q a r z : ℕ) → t ≡ startWith (Slots.Erase b q) (Bests.Area a r z) (getD areas k freshArea) (deviceIn devices d) →
+        coreIn (set areas k (t .area)) (set devices d (t .device)) ≡ eraseOr d b q a (displaces (jobIn areas k .task .kind)) (coreIn areas devices)
+    gives b q a r z e =
+        by-bool (displaces (jobIn areas k .task .kind))
+        (λ f. rw f (moved _ (ap (λ x. x .area) e) (ap (λ x. x .device) e ∙ rw f)))
+        (λ f. rw f (moved _ (ap (λ x. x .area) e) (ap (λ x. x .device) e ∙ rw f)))
+
+  arrays : (s : Slot) (b : Best) → Known b → (k : ℕ) → k ≡ chosenIn b → (t : Start) → t ≡ startWith s b (getD areas k freshArea) (deviceIn devices d) →
+      coreIn (set areas k (t .area)) (set devices d (t .device)) ≡ startAt d s (choiceOf b) (coreIn areas devices)
+  arrays Slots.Taken b h k e t f =
+      kept k (subst (λ n. n < 8) (sym e) (chosen-few b h)) t (ap (λ x. x .area) f) (ap (λ x. x .device) f)
+  arrays Slots.Free Bests.Nobody h k e t f = kept k (omega (arith, e)) t (ap (λ x. x .area) f) (ap (λ x. x .device) f)
+  arrays Slots.Free (Bests.Area a r z) h k e t f =
+      let is : k ≡ a = e ∙ rw (lt-ltb a 8 h) in
+      rw (sym is) (started k (omega (arith, is)) t (f ∙ rw is))
+  arrays (Slots.Erase b q) Bests.Nobody h k e t f = moved k (omega (arith, e)) t _ (ap (λ x. x .area) f) (ap (λ x. x .device) f)
+  arrays (Slots.Erase b q) (Bests.Area a r z) h k e t f =
+      let is : k ≡ a = e ∙ rw (lt-ltb a 8 h) in
+      gives k (omega (arith, is)) t b q a r z f ∙ rw is
+
+  module _ (records : List AreaRecord) (ages : List ℕ) (count : ℕ) (few : count ≤ 8) (holders : List DeviceRecord) (needs : List ℕ) where
+    abbrev choices : Best
+    choices = bestTo records ages (readyIn needs areas d) count
+
+    known-best : (b : Best) → b ≡ choices → Known b
+    known-best Bests.Nobody e = omega arith
+    known-best (Bests.Area a q x) e = let l = best-below records ages (readyIn needs areas d) count (Bests.Area a q x) e a q x refl in omega arith
 
     -- a turn of the loop over the devices
-    pub start-turn : (b : Best) → b ≡ pick (isFree (stateIn devices d)) at-free Bests.Nobody → (k : ℕ) → k ≡ chosenIn b → (t : Start) →
-        t ≡ startWith b (getD areas k freshArea) (getD devices d freeDevice) →
-        coreIn (set areas k (t .area)) (set devices d (t .device)) ≡ start (needsLayout records ages count needs) d (coreIn areas devices)
-    start-turn b e = by-bool (isFree (stateIn devices d)) (λ f. free f b (e ∙ rw f)) (λ f. kept b (e ∙ rw f) (busy-start records ages count needs d areas devices f))
+    pub start-turn : (s : Slot) →
+        s ≡ slotOf (deviceOf holders d .suspends) (jobIn areas (runnerOf (stateIn devices d)) .task .kind) (stateIn devices d) (deviceIn devices d .suspended) →
+        (b : Best) → b ≡ pick (isTaken s) Bests.Nobody choices → (k : ℕ) → k ≡ chosenIn b → (t : Start) →
+        t ≡ startWith s b (getD areas k freshArea) (getD devices d freeDevice) →
+        coreIn (set areas k (t .area)) (set devices d (t .device)) ≡ start (needsLayout records ages count holders needs) d (coreIn areas devices)
+    start-turn s e b f k g t h =
+        by-bool (isTaken s)
+        (λ taken.
+        let none : b ≡ Bests.Nobody = f ∙ rw taken in
+        arrays s b (rw none (omega arith)) k g t h ∙ taken-any d s taken (choiceOf b) choice (coreIn areas devices) ∙ by-slot)
+        (λ seeks.
+        let found : b ≡ choices = f ∙ rw seeks in
+        arrays s b (known-best b found) k g t h ∙ ap (λ x. startAt d s x (coreIn areas devices)) (choice-same records ages count holders needs d areas devices b found) ∙ by-slot)
       where
-        kept : (b : Best) → b ≡ Bests.Nobody → coreIn areas devices ≡ start (needsLayout records ages count needs) d (coreIn areas devices) → (k : ℕ) → k ≡ chosenIn b →
-            (t : Start) → t ≡ startWith b (getD areas k freshArea) (getD devices d freeDevice) →
-            coreIn (set areas k (t .area)) (set devices d (t .device)) ≡ start (needsLayout records ages count needs) d (coreIn areas devices)
-        kept b e same k f t g =
-            let k-is : k ≡ 0 = f ∙ ap chosenIn e in
-            let t-is = g ∙ ap (λ x. startWith x (getD areas k freshArea) (getD devices d freeDevice)) e in
-            core-kept areas devices k (t .area) d (t .device) (omega arith) there (ap (λ x. x .area .job) t-is) (ap (λ x. x .device .state) t-is) ∙ same
+        choice : Choice
+        choice = best (needsLayout records ages count holders needs) (coreIn areas devices) d count
 
-        free : isFree (stateIn devices d) ≡ true → (b : Best) → b ≡ at-free → (k : ℕ) → k ≡ chosenIn b →
-            (t : Start) → t ≡ startWith b (getD areas k freshArea) (getD devices d freeDevice) →
-            coreIn (set areas k (t .area)) (set devices d (t .device)) ≡ start (needsLayout records ages count needs) d (coreIn areas devices)
-        free f Bests.Nobody e = kept Bests.Nobody refl (nobody-start records ages count needs d areas devices f Bests.Nobody e refl)
-        free f (Bests.Area a q x) e = λ k g t h.
-            let known = best-below records ages (readyIn needs areas d) count (Bests.Area a q x) e a q x refl in
-            let few-areas : a < 8 = omega arith in
-            let k-is : k ≡ a = g ∙ rw (lt-ltb a 8 few-areas) in
-            area-start records ages count needs d areas devices f (Bests.Area a q x) e a q x refl _
-            (rw k-is (start-job a few-areas t (rw k-is at h)))
+        by-slot : startAt d s choice (coreIn areas devices) ≡ start (needsLayout records ages count holders needs) d (coreIn areas devices)
+        by-slot = ap (λ x. startAt d x choice (coreIn areas devices)) e ∙ slot-start records ages count holders needs d areas devices areas-are
 
 -- the choices of the first n devices, and one more
 pub second-turn : (p : Layout) (n : ℕ) (c e next : Core) → e ≡ secondHalf p n c → next ≡ start p n e → next ≡ secondHalf p (n + 1) c

@@ -10,7 +10,7 @@ use lib.ListN.{length, getD, set}
 use Rattle.arith.specs.Parts.{upd, upd-case}
 use Rattle.machine.specs.Arrays.{view-set, job-set}
 use Rattle.machine.specs.Dues.{Due, runnerOf}
-use Rattle.machine.specs.Sound.{jobIn, stateIn, coreIn, requestSound, stateSound}
+use Rattle.machine.specs.Sound.{jobIn, deviceIn, stateIn, coreIn, requestSound, stateSound}
 use Rattle.memory.specs.declared.DeviceAnswer.{DeviceAnswer}
 use Rattle.plan.specs.Questions.{areaOf, deviceOf}
 use Rattle.plan.specs.declared.records.AreaRecord.{AreaRecord}
@@ -18,7 +18,7 @@ use Rattle.plan.specs.declared.records.DeviceRecord.{DeviceRecord}
 use Rattle.plan.specs.declared.records.Plan.{Plan}
 use Rattle.plan.specs.declared.records.SubAreaRecord.{SubAreaRecord}
 use Rattle.rules.specs.Admission.{imageFits, storeReaches}
-use Rattle.rules.specs.Machine.{Verdict, isPending}
+use Rattle.rules.specs.Machine.{Verdict, isPending, doing}
 use Rattle.rules.specs.Memory.{Memory, verdictOf, memoryAfter}
 use Rattle.rules.specs.Round.{takeIn}
 use Rattle.segment.specs.Segments.{noSegment, segmentAt}
@@ -127,6 +127,9 @@ module _ (p : Plan) (few : p .«area_count» ≤ 8) (d : ℕ) (y : DeviceAnswer)
       (memory-taken p d a polls (jobIn areas a) y m (due a) (runs-due a polls e) ∙ runs-memory p d y areas devices m a polls e)
 
   module _ (areas-are : length areas ≡ 8) (devices-are : length devices ≡ 4) (dues-are : length dues ≡ 8) (there : d < 4) where
+    kept : {x : DeviceState} → x ≡ stateIn devices d → doing x (deviceIn devices d) ≡ deviceIn devices d
+    kept e = ap (λ x. doing x (deviceIn devices d)) e
+
     -- the area is set to the job that it has now
     with-due : (k : ℕ) (r : Area) (s : Segment) → k < 8 → (isPending (r .job) ≡ true → s ≡ segmentAt p k (r .job .task) (r .job .processed)) →
         Due p (set dues k s) (jobIn (set areas k r))
@@ -139,16 +142,16 @@ module _ (p : Plan) (few : p .«area_count» ≤ 8) (d : ℕ) (y : DeviceAnswer)
     turn-core : (x : DeviceState) → stateIn devices d ≡ x → (k : ℕ) → k ≡ runnerOf x → (r : Area) (s : Segment) (z : Device) →
         r ≡ turnArea (p .«sub_areas») (p .«sub_area_count») (areaOf (p .areas) k) (deviceOf (p .devices) d) (entry k) (due k) y m x →
         s ≡ turnDue (p .«sub_areas») (p .«sub_area_count») (areaOf (p .areas) k) (entry k) (due k) y m x →
-        z .state ≡ turnState (areaOf (p .areas) k) (deviceOf (p .devices) d) (entry k) (due k) y m x →
+        z ≡ doing (turnState (areaOf (p .areas) k) (deviceOf (p .devices) d) (entry k) (due k) y m x) (deviceIn devices d) →
         (coreIn (set areas k r) (set devices d z) ≡ takeIn p d y (lentTo areas devices m) .core) × Due p (set dues k s) (jobIn (set areas k r))
     turn-core Free e k f r s z =
         λ g h i. (
-          core-kept areas devices k r d z (omega (arith, f, areas-are)) (omega arith) (ap (λ x. x .job) g) (i ∙ sym e) ∙ free-core p d y areas devices m e,
+          core-kept areas devices k r d z (omega (arith, f, areas-are)) (omega arith) (ap (λ x. x .job) g) (i ∙ kept (sym e)) ∙ free-core p d y areas devices m e,
           kept-due k r s (omega (arith, f)) g h,
         )
     turn-core (LockedFor a) e k f r s z =
         λ g h i. (
-          core-kept areas devices k r d z (omega (arith, f, areas-are)) (omega arith) (ap (λ x. x .job) g) (i ∙ sym e) ∙ locked-core p d y areas devices m a e,
+          core-kept areas devices k r d z (omega (arith, f, areas-are)) (omega arith) (ap (λ x. x .job) g) (i ∙ kept (sym e)) ∙ locked-core p d y areas devices m a e,
           kept-due k r s (omega (arith, f)) g h,
         )
     turn-core (Runs a polls) e k f r s z =
@@ -158,7 +161,7 @@ module _ (p : Plan) (few : p .«area_count» ≤ 8) (d : ℕ) (y : DeviceAnswer)
         (λ g h i. (
           runs-core p d y areas devices m a polls e r z (omega (arith, known, areas-are)) (omega arith)
               (job-taken p d a polls (jobIn areas a) y m (due a) is (r .job) (ap (λ x. x .job) g))
-              (state-taken p d a polls (jobIn areas a) y m (due a) is (z .state) i),
+              (i ∙ ap (λ x. doing x (deviceIn devices d)) (state-taken p d a polls (jobIn areas a) y m (due a) is _ refl)),
           with-due a r s known (due-taken p d a polls (jobIn areas a) y m (due a) is (r .job) s (ap (λ x. x .job) g) h),
         ))
 
@@ -177,7 +180,7 @@ module _ (p : Plan) (few : p .«area_count» ≤ 8) (d : ℕ) (y : DeviceAnswer)
     pub core-turn : length areas ≡ 8 → length devices ≡ 4 → length dues ≡ 8 → d < 4 → (r : Area) (s : Segment) (z : Device) →
         r ≡ turnArea l (p .«sub_area_count») (areaOf records k) (deviceOf holders d) (entry k) (due k) y m (stateIn devices d) →
         s ≡ turnDue l (p .«sub_area_count») (areaOf records k) (entry k) (due k) y m (stateIn devices d) →
-        z .state ≡ turnState (areaOf records k) (deviceOf holders d) (entry k) (due k) y m (stateIn devices d) →
+        z ≡ doing (turnState (areaOf records k) (deviceOf holders d) (entry k) (due k) y m (stateIn devices d)) (deviceIn devices d) →
         (coreIn (set areas k r) (set devices d z) ≡ takeIn p d y (lentTo areas devices m) .core) × Due p (set dues k s) (jobIn (set areas k r))
     core-turn areas-are devices-are dues-are there r s z =
         rw (l-is, records-are, holders-are) (turn-core areas-are devices-are dues-are there (stateIn devices d) refl k k-is r s z)

@@ -5,6 +5,7 @@ ghost use Prim.Native.Nat.{_≤_};
 ghost use Rattle.machine.specs.Dues.{Due};
 ghost use Rattle.machine.specs.Sound.{jobIn, coreIn, isSound};
 ghost use Rattle.rules.specs.Admission.{imageFits, storeReaches};
+ghost use Rattle.rules.specs.Machine.{doing};
 ghost use Rattle.rules.specs.Round.{takeAll};
 ghost use Rattle.rounds.specs.Close.{lentTo};
 ghost use Rattle.rounds.specs.Turns.{Lent, turnArea, turnState, turnDue, turnMemory};
@@ -43,7 +44,7 @@ pub struct Turn {
     pub device: Device,
 }
 
-// A device in this state takes its answer; `entry` and `due` are of the area that its request is for.
+// A device takes its answer; `entry` and `due` are of the area that its request is for. What it keeps suspended stays.
 fn take_answer(
     sub_areas: [SubAreaRecord; 32],
     count: usize,
@@ -51,28 +52,30 @@ fn take_answer(
     device_record: DeviceRecord,
     entry: Area,
     due: Segment,
-    state: DeviceState,
+    device: Device,
     answer: DeviceAnswer,
     image: &mut [u8],
     store: &mut [u8],
 ) -> Turn
-    requires { ⌜ (count ≤ 32) × Lent «area_record» entry due (now image) (now store) state ⌝ }
-    ensures { λ r. ⌜ r .area ≡ turnArea «sub_areas» count «area_record» «device_record» entry due answer (memoryOf (now (image .entry)) (now (store .entry))) state ⌝ }
-    ensures { λ r. ⌜ r .due ≡ turnDue «sub_areas» count «area_record» entry due answer (memoryOf (now (image .entry)) (now (store .entry))) state ⌝ }
-    ensures { λ r. ⌜ r .device .state ≡ turnState «area_record» «device_record» entry due answer (memoryOf (now (image .entry)) (now (store .entry))) state ⌝ }
-    ensures { λ _. ⌜ now (image .exit) ≡ turnMemory «area_record» entry due answer (memoryOf (now (image .entry)) (now (store .entry))) state .image ⌝ }
-    ensures { λ _. ⌜ now (store .exit) ≡ turnMemory «area_record» entry due answer (memoryOf (now (image .entry)) (now (store .entry))) state .store ⌝ }
+    requires { ⌜ (count ≤ 32) × Lent «area_record» entry due (now image) (now store) (device .state) ⌝ }
+    ensures { λ r. ⌜ r .area ≡ turnArea «sub_areas» count «area_record» «device_record» entry due answer (memoryOf (now (image .entry)) (now (store .entry))) (device .state) ⌝ }
+    ensures { λ r. ⌜ r .due ≡ turnDue «sub_areas» count «area_record» entry due answer (memoryOf (now (image .entry)) (now (store .entry))) (device .state) ⌝ }
+    ensures { λ r. ⌜ r .device ≡ doing (turnState «area_record» «device_record» entry due answer (memoryOf (now (image .entry)) (now (store .entry))) (device .state)) device ⌝ }
+    ensures { λ _. ⌜ now (image .exit) ≡ turnMemory «area_record» entry due answer (memoryOf (now (image .entry)) (now (store .entry))) (device .state) .image ⌝ }
+    ensures { λ _. ⌜ now (store .exit) ≡ turnMemory «area_record» entry due answer (memoryOf (now (image .entry)) (now (store .entry))) (device .state) .store ⌝ }
 {
+    let state = device.state;
+    let suspended = device.suspended;
     match state {
         DeviceState::Free => Turn {
             area: entry,
             due,
-            device: Device { state },
+            device,
         },
         DeviceState::LockedFor(_) => Turn {
             area: entry,
             due,
-            device: Device { state },
+            device,
         },
         DeviceState::Runs { area, polls } => {
             let job = entry.job;
@@ -97,7 +100,7 @@ fn take_answer(
             Turn {
                 area: Area { job, waits },
                 due,
-                device: Device { state },
+                device: Device { state, suspended },
             }
         }
     }
@@ -134,7 +137,7 @@ pub fn first_half(
             device_records[d],
             areas[area],
             dues[area],
-            state,
+            device,
             answers[d],
             image,
             store,

@@ -1,4 +1,5 @@
 // The close of a round: each job that was pending before it and still is adds 1 to one count.
+ghost use mathlib.Core.List.{[]};
 ghost use mathlib.Core.Path.{_≡_};
 ghost use Prim.Native.Nat.{_<_};
 ghost use Rattle.machine.specs.Sound.{coreIn};
@@ -141,7 +142,7 @@ pub fn close(
     after: [Area; 8],
     devices: [Device; 4],
 ) -> [Area; 8]
-    ensures { λ r. ⌜ r ≡ areasAfter (needsLayout records ages 0 needs) before (coreIn after devices) ⌝ }
+    ensures { λ r. ⌜ r ≡ areasAfter (needsLayout records ages 0 [] needs) before (coreIn after devices) ⌝ }
 {
     let mut areas = [Area::fresh(); 8];
     let mut a = 0;

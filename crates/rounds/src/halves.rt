@@ -42,10 +42,12 @@ pub fn run_round(
     let due = first.dues;
     let needs = needed_devices(due);
     let records = plan.areas;
+    let device_records = plan.devices;
     let second = second_half(
         records,
         ages,
         plan.area_count,
+        device_records,
         needs,
         plan.device_count,
         taken,

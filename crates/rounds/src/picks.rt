@@ -1,25 +1,30 @@
-// The second half of a round: every device that is free picks the highest ranked job that needs it.
+// The second half of a round: every device that is free, or has an erase that can give way, picks the highest ranked job that needs it.
 ghost use mathlib.Core.Bool.{_&&_};
 ghost use mathlib.Core.Path.{_≡_};
 ghost use Prim.Native.Nat.{_≤_, _<_};
 ghost use lib.Dec.{eqb};
 ghost use Rattle.arith.specs.Cases.{pick};
 ghost use Rattle.machine.specs.Sound.{coreIn};
-ghost use Rattle.rules.specs.Machine.{isPending, secondHalf};
-ghost use Rattle.rounds.specs.Picks.{needsOf, betterOf, bestTo, readyIn, isFree, chosenIn, startOf, startWith, needsLayout};
+ghost use Rattle.rules.specs.Machine.{isPending, displaces, secondHalf};
+ghost use Rattle.rounds.specs.Picks.{needsOf, betterOf, bestTo, readyIn, freeSlot, runningSlot, slotOf, isTaken, chosenIn, startOf, startFree, eraseWith, startWith, needsLayout};
 ghost use Rattle.rounds.specs.declared.picks.Best.the-variants.{Nobody};
 use crate::answers::Arrays;
 use jobs::ended;
 use jobs::is_pending;
 use jobs::ranks::ranks_above;
+use machine::soundness::runner;
 use memory::JobResult;
+use memory::JobType;
 use plan::records::AreaRecord;
+use plan::records::DeviceRecord;
 use segment::Segment;
+use segment::is_erase;
 use segment::is_lock;
 use state::Area;
 use state::Device;
 use state::DeviceState;
 use state::Job;
+use state::Suspended;
 
 // The devices that the pending jobs need: those of their due segments.
 pub fn needed_devices(dues: [Segment; 8]) -> [u8; 8]
@@ -110,19 +115,75 @@ fn best_area(
     best
 }
 
-fn is_free(state: DeviceState) -> bool
-    ensures { λ r. ⌜ r ≡ isFree state ⌝ }
+// What a device has for the jobs that need it: nothing, as it runs a request or is locked; itself; or the place of an erase that
+// runs and can give way, or is suspended.
+pub enum Slot {
+    Taken,
+    Free,
+    Erase { area: u8, polls: u16 },
+}
+
+fn free_slot(suspended: Suspended) -> Slot
+    ensures { λ r. ⌜ r ≡ freeSlot suspended ⌝ }
 {
-    match state {
-        DeviceState::Free => true,
-        DeviceState::Runs { area: _, polls: _ } => false,
-        DeviceState::LockedFor(_) => false,
+    match suspended {
+        Suspended::Nothing => Slot::Free,
+        Suspended::Erase { area, polls } => Slot::Erase { area, polls },
     }
 }
 
-// The choice of a device in this state.
+// A device that can suspend runs this request, of a job of that type.
+fn running_slot(kind: JobType, area: u8, polls: u16, suspended: Suspended) -> Slot
+    ensures { λ r. ⌜ r ≡ runningSlot kind area polls suspended ⌝ }
+{
+    match suspended {
+        Suspended::Nothing => {
+            if 8 <= area {
+                return Slot::Taken;
+            }
+            if !is_erase(kind) {
+                return Slot::Taken;
+            }
+            Slot::Erase { area, polls }
+        }
+        Suspended::Erase { area: _, polls: _ } => Slot::Taken,
+    }
+}
+
+// `running` is the area whose request the device runs, or any.
+fn slot_on(suspends: bool, running: Area, device: Device) -> Slot
+    ensures { λ r. ⌜ r ≡ slotOf suspends (running .job .task .kind) (device .state) (device .suspended) ⌝ }
+{
+    let state = device.state;
+    let suspended = device.suspended;
+    match state {
+        DeviceState::Free => free_slot(suspended),
+        DeviceState::LockedFor(_) => Slot::Taken,
+        DeviceState::Runs { area, polls } => {
+            if !suspends {
+                return Slot::Taken;
+            }
+            let job = running.job;
+            let task = job.task;
+            let kind = task.kind;
+            running_slot(kind, area, polls, suspended)
+        }
+    }
+}
+
+fn is_taken(slot: Slot) -> bool
+    ensures { λ r. ⌜ r ≡ isTaken slot ⌝ }
+{
+    match slot {
+        Slot::Taken => true,
+        Slot::Free => false,
+        Slot::Erase { area: _, polls: _ } => false,
+    }
+}
+
+// The choice for what a device has.
 fn pick_area(
-    state: DeviceState,
+    slot: Slot,
     records: [AreaRecord; 8],
     ages: [u8; 8],
     count: usize,
@@ -131,9 +192,9 @@ fn pick_area(
     device: usize,
 ) -> Best
     requires { ⌜ count ≤ 8 ⌝ }
-    ensures { λ r. ⌜ r ≡ pick (isFree state) (bestTo records ages (readyIn needs areas device) count) Nobody ⌝ }
+    ensures { λ r. ⌜ r ≡ pick (isTaken slot) Nobody (bestTo records ages (readyIn needs areas device) count) ⌝ }
 {
-    if !is_free(state) {
+    if is_taken(slot) {
         return Best::Nobody;
     }
     best_area(records, ages, count, needs, areas, device)
@@ -166,9 +227,10 @@ pub struct Start {
 }
 
 // A free device starts the request of the area's job, or is locked for it.
-fn start_job(area: u8, entry: Area) -> Start
-    ensures { λ r. ⌜ r ≡ startOf area entry ⌝ }
+fn start_job(area: u8, entry: Area, device: Device) -> Start
+    ensures { λ r. ⌜ r ≡ startOf area entry device ⌝ }
 {
+    let suspended = device.suspended;
     let job = entry.job;
     let task = job.task;
     let kind = task.kind;
@@ -178,18 +240,18 @@ fn start_job(area: u8, entry: Area) -> Start
         let state = DeviceState::LockedFor(area);
         return Start {
             area: Area { job, waits },
-            device: Device { state },
+            device: Device { state, suspended },
         };
     }
     let state = DeviceState::Runs { area, polls: 0 };
     Start {
         area: entry,
-        device: Device { state },
+        device: Device { state, suspended },
     }
 }
 
-fn start_choice(best: Best, entry: Area, device: Device) -> Start
-    ensures { λ r. ⌜ r ≡ startWith best entry device ⌝ }
+fn start_free(best: Best, entry: Area, device: Device) -> Start
+    ensures { λ r. ⌜ r ≡ startFree best entry device ⌝ }
 {
     match best {
         Best::Nobody => Start {
@@ -200,7 +262,68 @@ fn start_choice(best: Best, entry: Area, device: Device) -> Start
             area,
             priority: _,
             age: _,
-        } => start_job(area, entry),
+        } => start_job(area, entry, device),
+    }
+}
+
+// A segment that is no erase, and no lock request.
+fn displaces(kind: JobType) -> bool
+    ensures { λ r. ⌜ r ≡ displaces kind ⌝ }
+{
+    if is_erase(kind) {
+        return false;
+    }
+    !is_lock(kind)
+}
+
+// The erase of an area goes on or resumes, or gives way to the choice, a job of type `kind`.
+fn erase_or(area: u8, polls: u16, kind: JobType, best: Best) -> Device
+    ensures { λ r. ⌜ r ≡ eraseWith area polls kind best ⌝ }
+{
+    let erase = Device {
+        state: DeviceState::Runs { area, polls },
+        suspended: Suspended::Nothing,
+    };
+    match best {
+        Best::Nobody => erase,
+        Best::Area {
+            area: chosen,
+            priority: _,
+            age: _,
+        } => {
+            if !displaces(kind) {
+                return erase;
+            }
+            Device {
+                state: DeviceState::Runs {
+                    area: chosen,
+                    polls: 0,
+                },
+                suspended: Suspended::Erase { area, polls },
+            }
+        }
+    }
+}
+
+fn start_choice(slot: Slot, best: Best, entry: Area, device: Device) -> Start
+    ensures { λ r. ⌜ r ≡ startWith slot best entry device ⌝ }
+{
+    match slot {
+        Slot::Taken => Start {
+            area: entry,
+            device,
+        },
+        Slot::Free => start_free(best, entry, device),
+        Slot::Erase { area, polls } => {
+            let job = entry.job;
+            let task = job.task;
+            let kind = task.kind;
+            let device = erase_or(area, polls, kind, best);
+            Start {
+                area: entry,
+                device,
+            }
+        }
     }
 }
 
@@ -209,22 +332,25 @@ pub fn second_half(
     records: [AreaRecord; 8],
     ages: [u8; 8],
     count: usize,
+    device_records: [DeviceRecord; 4],
     needs: [u8; 8],
     device_count: usize,
     mut areas: [Area; 8],
     mut devices: [Device; 4],
 ) -> Arrays
     requires { ⌜ (count ≤ 8) × («device_count» ≤ 4) ⌝ }
-    ensures { λ r. ⌜ coreIn (r .areas) (r .devices) ≡ secondHalf (needsLayout records ages count needs) «device_count» (coreIn areas devices) ⌝ }
+    ensures { λ r. ⌜ coreIn (r .areas) (r .devices) ≡ secondHalf (needsLayout records ages count «device_records» needs) «device_count» (coreIn areas devices) ⌝ }
 {
     let mut d = 0;
     while d < device_count {
         let device = devices[d];
         let state = device.state;
-        let best = pick_area(state, records, ages, count, needs, areas, d);
+        let record = device_records[d];
+        let slot = slot_on(record.suspends, areas[runner(state)], device);
+        let best = pick_area(slot, records, ages, count, needs, areas, d);
         // without a choice any area will do: it stays as it is
         let area = chosen(best);
-        let start = start_choice(best, areas[area], device);
+        let start = start_choice(slot, best, areas[area], device);
         let entry = start.area;
         let device = start.device;
         areas[area] = entry;

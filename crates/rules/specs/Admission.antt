@@ -108,7 +108,7 @@ releaseQuestions p c a address n =
     ∷ true
     ∷ true
     ∷ onOneDevice p a address n
-    ∷ holdsLock a (c .devices (rangeDevice p a address n))
+    ∷ holdsLock a (c .devices (rangeDevice p a address n) .state)
     ∷ []
 
 -- cancel: 10, 17 "Is a job pending?"

@@ -33,10 +33,10 @@ module _ (p : Plan) (c : Core) (a : ℕ) where
       )
 
   -- the area holds the lock of the device of the range
-  pub release-admitted : (address : LogicalAddress) (n : ℕ) → releaseNumber p c a address n ≡ 0 → c .devices (rangeDevice p a address n) ≡ LockedFor a
+  pub release-admitted : (address : LogicalAddress) (n : ℕ) → releaseNumber p c a address n ≡ 0 → c .devices (rangeDevice p a address n) .state ≡ LockedFor a
   unfolding releaseNumber releaseQuestions
   release-admitted address n e =
-      holds-lock a (c .devices (rangeDevice p a address n)) (none-elim 10 (releaseQuestions p c a address n) (omega arith) e 6 (omega arith))
+      holds-lock a (c .devices (rangeDevice p a address n) .state) (none-elim 10 (releaseQuestions p c a address n) (omega arith) e 6 (omega arith))
 
   -- a job is pending
   pub cancel-admitted : cancelNumber p c a ≡ 0 → isPending (c .jobs a) ≡ true

@@ -18,7 +18,7 @@ use Rattle.rules.specs.FirstCome.{first-come}
 use Rattle.rules.specs.History.{Call, submit, releases, cancels, asks, round, History, start, submitted, step, run}
 use Rattle.rules.specs.Laws.{Laws}
 use Rattle.rules.specs.Layout.{priorityOf, layoutOf, layoutAt}
-use Rattle.rules.specs.Machine.{isPending, isOwn, waitOf, cancelIf, cancel, begin, release}
+use Rattle.rules.specs.Machine.{isPending, need, holds, cancelIf, cancel, begin, release}
 use Rattle.rules.specs.RankLaws.{AgesApart, ranks-one}
 use Rattle.rules.specs.Runs.{HistoryFits, history-fits, round-pending}
 use Rattle.rules.specs.Statements.{isAbove, FirstCome, noted, acceptedFrom, acceptedAt}
@@ -90,7 +90,7 @@ module _ (p : Plan) (L : (ages : ℕ → ℕ) → AgesApart ages → Laws (layou
   -- a cancel makes no area pending
   cancel-pending : (c : ℕ) (h : History) → cancelNumber p (h .core) c ≡ 0 → (a : ℕ) → isPending (cancel (layoutOf p) c (h .core) .jobs a) ≡ true → Pending h a
   unfolding cancel
-  cancel-pending c h e a = go (isOwn (waitOf (layoutOf p) (h .core) c))
+  cancel-pending c h e a = go (holds c (h .core .devices (need (layoutOf p) c (h .core .jobs c))))
     where
       changed : (j : Job) → isPending (upd (h .core .jobs) c j a) ≡ true → Pending h a
       changed j =

@@ -8,16 +8,17 @@ use borrow.Author.Tests.{lt-ltb, le-ltb}
 use Rattle.arith.specs.Cases.{pick}
 use Rattle.memory.specs.declared.Task.{Task}
 use Rattle.segment.specs.Segments.{isLock, ownBound, belowBound}
+use Rattle.state.specs.declared.Device.{Device}
 use Rattle.state.specs.declared.DeviceState.{DeviceState}
 use Rattle.state.specs.declared.DeviceState.the-variants.{Free, Runs, LockedFor}
 use Rattle.state.specs.declared.Job.{Job}
 use Rattle.rules.specs.FirstHalf.{first-half}
 use Rattle.rules.specs.History.{Tally, count, close}
 use Rattle.rules.specs.Laws.{Laws}
-use Rattle.rules.specs.Layout.{Layout}
+use Rattle.rules.specs.Layout.{Layout, mostBelow}
 use Rattle.rules.specs.Machine.{Core, isPending, need, Verdict, firstHalf, secondHalf, Wait, own, above, below, locked, none, waitOn, waitOf}
-use Rattle.rules.specs.Potential.{Left, AtMost, toCome, dueLeft, limitOf, laterLeft, leftBy, leftOf, by-behind, left-idle}
-use Rattle.rules.specs.Reachable.{DeviceFits, Reachable, leftAt, FollowsAt, need-known, passed, passes-on}
+use Rattle.rules.specs.Potential.{Left, AtMost, toCome, dueLeft, tryLeft, lowLeft, limitOf, laterLeft, leftBy, leftOf, by-behind, left-idle}
+use Rattle.rules.specs.Reachable.{StateFits, DeviceFits, Reachable, leftAt, FollowsAt, need-known, passed, passes-on}
 use Rattle.rules.specs.SecondHalf.{Busy, Started, second-half}
 
 -- the rounds of a job: its waits, "and one more if a round ended it"
@@ -26,7 +27,7 @@ waited w = w .own + w .above + w .below + w .locked + pick (w .byRound) 1 0
 
 -- the two bounds of a job
 abbrev pub boundsOf : Layout → ℕ → Task → Left
-boundsOf p a t = record { own = ownBound (p .limit) (p .segment a t) t; below = belowBound (p .limit) (p .segment a t) t }
+boundsOf p a t = record { own = ownBound (p .limit) (p .segment a t) t; below = belowBound (mostBelow p) (p .segment a t) t }
 
 -- what was counted, with what is left
 abbrev pub inAll : Tally → Left → Left
@@ -44,23 +45,30 @@ record Closed (k : Wait) (u v : Left) (w : Tally) : Type 0 where
   sum : w .rounds ≡ waited w → count k w .rounds ≡ waited (count k w)
 
 -- for a job that is pending at the close, whose device is in state x
-closed : (p : Layout) (jobs : ℕ → Job) (a : ℕ) (x : DeviceState) (w : Tally) → isPending (jobs a) ≡ true →
-    DeviceFits p jobs (need p a (jobs a)) x → Busy x → Closed (waitOn p a x) (leftOf p 0 a (jobs a) x) (leftOf p 1 a (jobs a) x) w
+closed : (p : Layout) (jobs : ℕ → Job) (a : ℕ) (x : Device) (w : Tally) → isPending (jobs a) ≡ true →
+    DeviceFits p jobs (need p a (jobs a)) x → Busy (x .state) →
+    Closed (waitOn p a (x .state)) (leftOf p 0 a (jobs a) x) (leftOf p 1 a (jobs a) x) w
 unfolding leftOf
-closed p jobs a Free w h f b = absurd b
-closed p jobs a (LockedFor i) w h f b = omega arith
-closed p jobs a (Runs i q) w h f b =
-    rw h
-    (by-behind (λ k. Closed k (left k 0) (left k 1) w) p a i
-    (λ e. rw (subst (λ n. isLock (jobs n .task .kind) ≡ false) e (f .no-lock)) (omega (arith, f .few)))
-    (λ _ _. omega arith)
-    (λ _ _. omega (arith, f .few)))
+closed p jobs a x w h f b = go (x .state) refl (f .state) b
   where
     limit : ℕ
     limit = limitOf p a (jobs a)
 
-    left : Wait → ℕ → Left
-    left k t = leftBy true (isLock (jobs a .task .kind)) (dueLeft k (limit - (q + t)) limit) (laterLeft p a (jobs a))
+    left : Wait → ℕ → ℕ → Left
+    left k n t =
+        let u = dueLeft k n (tryLeft a limit (x .suspended)) in
+        leftBy true (isLock (jobs a .task .kind)) (record { own = u .own; below = u .below + lowLeft p a limit (x .suspended) }) (laterLeft p a (jobs a))
+
+    go : (y : DeviceState) → x .state ≡ y → StateFits p jobs (need p a (jobs a)) y → Busy y →
+        Closed (waitOn p a (x .state)) (leftOf p 0 a (jobs a) x) (leftOf p 1 a (jobs a) x) w
+    go Free e g b = absurd b
+    go (LockedFor i) e g b = rw (h, e) (omega arith)
+    go (Runs i q) e g b =
+        rw (h, e)
+        (by-behind (λ k. Closed k (left k (limit - (q + 0)) 0) (left k (limit - (q + 1)) 1) w) p a i
+        (λ z. rw (subst (λ n. isLock (jobs n .task .kind) ≡ false) z (g .no-lock)) (omega (arith, g .few)))
+        (λ _ _. omega arith)
+        (λ _ _. omega (arith, g .few)))
 
 -- a close that counts a wait ends no job
 count-ends-none : (k : Wait) (w : Tally) → count k w .byRound ≡ w .byRound
@@ -87,9 +95,10 @@ module _ (p : Layout) (admits : ℕ → Task → Bool) (L : Laws p admits) (c : 
   -- both halves of a round
   pub halves : (v : ℕ → Verdict) → Started p admits 0 (p .devices) c (secondHalf p (p .devices) (firstHalf p v (p .devices) c))
   halves v =
-      let first = first-half p admits L v c r (p .devices) .passes in
-      let second = second-half p admits L (firstHalf p v (p .devices) c) (passed r first) (p .devices) (le-refl _) in
-      record { passes = passes-on first (second .passes); served = second .served }
+      let taken = first-half p admits L v c r (p .devices) in
+      let first = taken .passes in
+      let second = second-half p admits L (firstHalf p v (p .devices) c) (passed r first) (taken .polled) (p .devices) (le-refl _) in
+      record { passes = passes-on first (second .passes); served = second .served; polled = second .polled }
 
   -- the close for area a
   pub close-fits : (e : Core) → Started p admits 0 (p .devices) c e → (a : ℕ) (w : Tally) → TallyFits p c a w →
@@ -102,7 +111,7 @@ module _ (p : Layout) (admits : ℕ → Task → Bool) (L : Laws p admits) (c : 
       j : Job
       j = e .jobs a
 
-      x : DeviceState
+      x : Device
       x = e .devices (need p a j)
 
       bound : AtMost (inAll w (leftAt p (p .devices) e a)) (boundsOf p a (j .task))

@@ -5,8 +5,8 @@ use mathlib.Core.List.{List, [], _∷_, _++_}
 use lib.ListN.{replicate}
 use Rattle.memory.specs.declared.DeviceAnswer.the-variants.{Pending, Done, Failed}
 use Rattle.memory.specs.declared.JobType.{JobType}
-use Rattle.memory.specs.declared.JobType.the-variants.{Write, Compare, Erase, BlankCheck, Lock}
-use Rattle.plan.specs.Examples.{planT, device, area, subArea, sizes}
+use Rattle.memory.specs.declared.JobType.the-variants.{Write, Read, Compare, Erase, BlankCheck, Lock}
+use Rattle.plan.specs.Examples.{planT, planE, device, area, subArea, sizes}
 use Rattle.rules.specs.Session.{Entry, number, devices, info, Line, call, answers, nothing, locked, request}
 use Rattle.arith.specs.Bounded as Bounded
 use Rattle.arith.specs.FirstNo as FirstNo
@@ -97,5 +97,38 @@ pub closed-runs :
     -- A lock request has its place too.
     × (prints planV 64 (job Lock 1 256 4 ∷ job Write 0 4 4 ∷ answers (Pending ∷ []) ∷ ask 0 ∷ release 1 256 4 ∷ answers (Pending ∷ []) ∷ answers (Done ∷ []) ∷ ask 0 ∷ ask 1 ∷ [])
     ≡ number 0 ∷ number 0 ∷ devices (locked ∷ []) ∷ info 0 0 0 0 0 1 ∷ number 0 ∷ devices (request 0 1 4 4 ∷ []) ∷ devices (nothing ∷ []) ∷ info 0 4 1 0 0 1 ∷ info 0 0 0 0 0 0 ∷ [])
+    -- An erase gives way with its polls: two before, the third drops it. The round that resumes it gives no poll.
+    × (prints (planE 83 3) 64 (job Erase 0 0 16 ∷ answers (Pending ∷ []) ∷ answers (Pending ∷ []) ∷ job Read 1 256 4 ∷ answers (Pending ∷ []) ∷ ask 0 ∷ answers (Done ∷ []) ∷ answers (Pending ∷ []) ∷ ask 0 ∷ ask 1 ∷ [])
+    ≡ number 0 ∷ devices (request 0 4 0 16 ∷ []) ∷ devices (request 0 4 0 16 ∷ []) ∷ number 0 ∷ devices (request 1 2 16 4 ∷ []) ∷ info 0 0 2 1 0 0 ∷ devices (request 0 4 0 16 ∷ []) ∷ devices (nothing ∷ []) ∷ info 1 0 3 1 0 0 ∷ info 0 4 1 0 0 0 ∷ [])
+    -- A lock request suspends nothing, and a job below it does not either.
+    × (prints (planE 83 3) 64 (job Erase 0 0 16 ∷ answers (Pending ∷ []) ∷ job Lock 2 512 4 ∷ job Read 1 256 4 ∷ answers (Pending ∷ []) ∷ answers (Pending ∷ []) ∷ answers (Done ∷ []) ∷ ask 2 ∷ ask 1 ∷ release 2 512 4 ∷ answers (Pending ∷ []) ∷ answers (Done ∷ []) ∷ ask 1 ∷ [])
+    ≡ number 0 ∷ devices (request 0 4 0 16 ∷ []) ∷ number 0 ∷ number 0 ∷ devices (request 0 4 0 16 ∷ []) ∷ devices (request 0 4 0 16 ∷ []) ∷ devices (locked ∷ []) ∷ info 0 0 0 0 2 0 ∷ info 0 0 0 0 2 1 ∷ number 0 ∷ devices (request 1 2 16 4 ∷ []) ∷ devices (nothing ∷ []) ∷ info 0 4 1 0 2 1 ∷ [])
+    -- An erase suspends no erase.
+    × (prints (planE 83 3) 64 (job Erase 0 0 16 ∷ answers (Pending ∷ []) ∷ job Erase 1 256 16 ∷ answers (Pending ∷ []) ∷ answers (Done ∷ []) ∷ answers (Done ∷ []) ∷ ask 0 ∷ ask 1 ∷ [])
+    ≡ number 0 ∷ devices (request 0 4 0 16 ∷ []) ∷ number 0 ∷ devices (request 0 4 0 16 ∷ []) ∷ devices (request 1 4 16 16 ∷ []) ∷ devices (nothing ∷ []) ∷ info 0 16 2 0 0 0 ∷ info 0 16 1 0 1 0 ∷ [])
+    -- The next segment of the same job goes on over the suspended erase.
+    × (prints (planE 83 3) 64 (job Erase 0 0 16 ∷ answers (Pending ∷ []) ∷ job Read 1 256 8 ∷ answers (Pending ∷ []) ∷ answers (Done ∷ []) ∷ answers (Done ∷ []) ∷ answers (Done ∷ []) ∷ ask 0 ∷ ask 1 ∷ [])
+    ≡ number 0 ∷ devices (request 0 4 0 16 ∷ []) ∷ number 0 ∷ devices (request 1 2 16 4 ∷ []) ∷ devices (request 1 2 20 4 ∷ []) ∷ devices (request 0 4 0 16 ∷ []) ∷ devices (nothing ∷ []) ∷ info 0 16 2 2 0 0 ∷ info 0 8 2 0 0 0 ∷ [])
+    -- Cancelled while it is suspended, an erase ends when its resumed request ends.
+    × (prints (planE 83 3) 64 (job Erase 0 0 16 ∷ answers (Pending ∷ []) ∷ job Read 1 256 4 ∷ answers (Pending ∷ []) ∷ cancel 0 ∷ ask 0 ∷ answers (Done ∷ []) ∷ cancel 0 ∷ answers (Done ∷ []) ∷ ask 0 ∷ [])
+    ≡ number 0 ∷ devices (request 0 4 0 16 ∷ []) ∷ number 0 ∷ devices (request 1 2 16 4 ∷ []) ∷ number 0 ∷ info 0 0 1 1 0 0 ∷ devices (request 0 4 0 16 ∷ []) ∷ number 0 ∷ devices (nothing ∷ []) ∷ info 3 16 2 1 0 0 ∷ [])
+    -- No lock is given while an erase is suspended: it resumes before a lock request.
+    × (prints (planE 83 3) 64 (job Erase 0 0 16 ∷ answers (Pending ∷ []) ∷ job Read 1 256 4 ∷ answers (Pending ∷ []) ∷ job Lock 2 512 4 ∷ answers (Done ∷ []) ∷ answers (Pending ∷ []) ∷ answers (Done ∷ []) ∷ ask 2 ∷ ask 0 ∷ [])
+    ≡ number 0 ∷ devices (request 0 4 0 16 ∷ []) ∷ number 0 ∷ devices (request 1 2 16 4 ∷ []) ∷ number 0 ∷ devices (request 0 4 0 16 ∷ []) ∷ devices (request 0 4 0 16 ∷ []) ∷ devices (locked ∷ []) ∷ info 0 0 0 0 2 0 ∷ info 0 16 3 1 0 0 ∷ [])
+    -- Two jobs one after the other over one suspended erase.
+    × (prints (planE 83 3) 64 (job Erase 0 0 16 ∷ answers (Pending ∷ []) ∷ job Read 1 256 4 ∷ answers (Pending ∷ []) ∷ job Read 2 512 8 ∷ answers (Done ∷ []) ∷ answers (Done ∷ []) ∷ answers (Done ∷ []) ∷ ask 0 ∷ ask 1 ∷ ask 2 ∷ [])
+    ≡ number 0 ∷ devices (request 0 4 0 16 ∷ []) ∷ number 0 ∷ devices (request 1 2 16 4 ∷ []) ∷ number 0 ∷ devices (request 2 2 32 8 ∷ []) ∷ devices (request 0 4 0 16 ∷ []) ∷ devices (nothing ∷ []) ∷ info 0 16 2 2 0 0 ∷ info 0 4 1 0 0 0 ∷ info 0 8 1 0 0 0 ∷ [])
+    -- A lower segment and a resumed erase stand before area 2: twice the limit less one.
+    × (prints (planE 83 2) 64 (job Erase 0 0 16 ∷ answers (Pending ∷ []) ∷ job Read 1 256 4 ∷ answers (Pending ∷ []) ∷ job Erase 2 512 16 ∷ answers (Pending ∷ []) ∷ answers (Done ∷ []) ∷ ask 2 ∷ answers (Done ∷ []) ∷ answers (Done ∷ []) ∷ ask 2 ∷ [])
+    ≡ number 0 ∷ devices (request 0 4 0 16 ∷ []) ∷ number 0 ∷ devices (request 1 2 16 4 ∷ []) ∷ number 0 ∷ devices (request 1 2 16 4 ∷ []) ∷ devices (request 0 4 0 16 ∷ []) ∷ info 0 0 0 0 2 0 ∷ devices (request 2 4 32 16 ∷ []) ∷ devices (nothing ∷ []) ∷ info 0 16 1 0 2 0 ∷ [])
+    -- Only an erase gives way.
+    × (prints (planE 83 3) 64 (job Write 0 0 4 ∷ answers (Pending ∷ []) ∷ job Read 1 256 4 ∷ answers (Pending ∷ []) ∷ answers (Done ∷ []) ∷ answers (Done ∷ []) ∷ ask 0 ∷ ask 1 ∷ [])
+    ≡ number 0 ∷ devices (request 0 1 0 4 ∷ []) ∷ number 0 ∷ devices (request 0 1 0 4 ∷ []) ∷ devices (request 1 2 16 4 ∷ []) ∷ devices (nothing ∷ []) ∷ info 0 4 2 0 0 0 ∷ info 0 4 1 0 1 0 ∷ [])
+    -- On a chip that cannot suspend nothing gives way.
+    × (prints (planE 86 3) 64 (job Erase 0 0 16 ∷ answers (Pending ∷ []) ∷ answers (Pending ∷ []) ∷ job Read 1 256 4 ∷ answers (Pending ∷ []) ∷ answers (Done ∷ []) ∷ answers (Done ∷ []) ∷ ask 0 ∷ ask 1 ∷ [])
+    ≡ number 0 ∷ devices (request 0 4 0 16 ∷ []) ∷ devices (request 0 4 0 16 ∷ []) ∷ number 0 ∷ devices (request 0 4 0 16 ∷ []) ∷ devices (request 1 2 16 4 ∷ []) ∷ devices (nothing ∷ []) ∷ info 0 16 3 0 0 0 ∷ info 0 4 1 0 1 0 ∷ [])
+    -- An erase that was cancelled while it ran can be suspended too; it is over when its resumed request ends.
+    × (prints (planE 83 3) 64 (job Erase 0 0 16 ∷ answers (Pending ∷ []) ∷ cancel 0 ∷ job Read 1 256 4 ∷ answers (Pending ∷ []) ∷ answers (Done ∷ []) ∷ ask 0 ∷ answers (Failed 0 ∷ []) ∷ ask 0 ∷ [])
+    ≡ number 0 ∷ devices (request 0 4 0 16 ∷ []) ∷ number 0 ∷ number 0 ∷ devices (request 1 2 16 4 ∷ []) ∷ devices (request 0 4 0 16 ∷ []) ∷ info 0 0 2 1 0 0 ∷ devices (nothing ∷ []) ∷ info 3 0 2 1 0 0 ∷ [])
 unfolding Bounded.every Bounded.some Bounded.sum FirstNo.firstNo Multiples.multiple Tables.table Parts.part Parts.put Parts.upd Number.numberAt Records.deviceAt Records.areaAt Records.granularityAt Records.subAreaAt Records.isRecord Records.recordsUpTo Records.recordsFrom Records.deviceCount Records.areasStart Records.areaCount Records.subAreasStart Records.subAreaCount Records.recordsEnd Records.recordLayout Records.planOf Records.emptyPlan Questions.apart Questions.wholeRecords Questions.countsFit Questions.deviceDue Questions.deviceJoins Questions.devicesJoin Questions.windowsApart Questions.windowsFit Questions.granularityFits Questions.sizesFit Questions.insideDevice Questions.isPlaced Questions.allPlaced Questions.sizeIn Questions.spaceFits Questions.spacesFit Questions.subAreasApart Questions.recordQuestions Questions.planQuestions Questions.loadNumber Questions.loadedPlan Mapping.find Mapping.mapped Segments.burstOrUnit Segments.segmentAt Segments.cut Segments.segmentsFrom Segments.spansAfter Segments.spans Segments.ownSum Segments.belowSum Segments.ownBound Segments.belowBound Ranks.agesAfter Ranks.rankAbove Layout.layoutOf Machine.jobFailed Machine.jobFinished Machine.jobDiffers Machine.takeAnswer Machine.firstHalf Machine.ready Machine.best Machine.start Machine.secondHalf Machine.behind Machine.cancel Machine.begin Machine.release Admission.isInside Admission.isAligned Admission.fitsWindow Admission.onOneDevice Admission.rangeDevice Admission.jobQuestions Admission.releaseQuestions Admission.cancelQuestions Admission.infoQuestions Admission.memoryInfoQuestions Admission.imageFits Admission.storeReaches Admission.jobNumber Admission.releaseNumber Admission.cancelNumber Admission.infoNumber Admission.memoryInfoNumber Admission.roundNumber Admission.admits Round.takeIn Round.takeAll Round.roundHalves History.start History.roundOf History.submitted History.step History.run Session.shownTo Session.entryOf Session.playLine Session.play
-closed-runs = (refl, refl, refl, refl, refl, refl, refl, refl, refl, refl, refl, refl, refl, refl)
+closed-runs = (refl, refl, refl, refl, refl, refl, refl, refl, refl, refl, refl, refl, refl, refl, refl, refl, refl, refl, refl, refl, refl, refl, refl, refl, refl)

@@ -59,7 +59,7 @@ memory-kept p (round answers n) h m (inr e) = absurd (true≢false e)
 
 -- where device d runs area a, the changes made are those of area a's request too
 made-by : (p : Plan) (c : Core) (change : ℕ → Request → Change) (n : ℕ) (l l' : List ℕ) → MadeAll (λ d. change d (requestAt p c d)) n l l' →
-    (d a q x : ℕ) → d < n → c .devices d ≡ Runs a q → Within (change d (requestFor p a (c .jobs a))) x →
+    (d a q x : ℕ) → d < n → c .devices d .state ≡ Runs a q → Within (change d (requestFor p a (c .jobs a))) x →
     getD l' x 0 ≡ change d (requestFor p a (c .jobs a)) .value x
 made-by p c change n l l' all d a q x h e =
     subst (λ s. Within (change d (requestOn p s (c .jobs))) x → getD l' x 0 ≡ change d (requestOn p s (c .jobs)) .value x) e (all .inside d h x)

@@ -23,7 +23,7 @@ use Rattle.rules.specs.Ends.{ends-few}
 use Rattle.rules.specs.EndsSo.{ends-so}
 use Rattle.rules.specs.History.{submit, cancels, round, noTally, History, submitted, step}
 use Rattle.rules.specs.Layout.{layoutOf}
-use Rattle.rules.specs.Machine.{Core, isPending, isCancelling, isOwn, waitOf, begin, cancel}
+use Rattle.rules.specs.Machine.{Core, isPending, isCancelling, need, holds, begin, cancel}
 use Rattle.rules.specs.Memory.{Memory}
 use Rattle.rules.specs.PlanLaws.{admitted}
 use Rattle.rules.specs.Reach.{actedBytes, broughtBytes, imageBytes, windowBytes, actedByte, requestOf}
@@ -34,7 +34,7 @@ use Rattle.rules.specs.Statements.{RoundChanges, Demand1, Demand2}
 
 module _ (p : Plan) (h : History) (first : Demand1 p h) (answers : List DeviceAnswer) (m : Memory)
     (accepted : roundNumber p (m .image) (m .store) ≡ 0) (d a polls : ℕ) (known : d < p .«device_count»)
-    (runs : h .core .devices d ≡ Runs a polls) (done : answerOf answers d ≡ Answers.Done) where
+    (runs : h .core .devices d .state ≡ Runs a polls) (done : answerOf answers d ≡ Answers.Done) where
   -- the changes that the round makes
   changes : RoundChanges p (h .core) answers m (memoryOf p (round answers m) h m)
   changes = first .rounds answers m accepted
@@ -73,17 +73,17 @@ module _ (p : Plan) (h : History) (a : ℕ) where
 
   -- a cancel that is accepted. Test: does the job's request run?
   cancel-accepted : cancelNumber p (h .core) a ≡ 0 → let j = step p (cancels a) h .core .jobs a in
-      (isOwn (waitOf (layoutOf p) (h .core) a) ≡ false → (isPending j ≡ false) × (j .result .0 ≡ 3))
-      × (isOwn (waitOf (layoutOf p) (h .core) a) ≡ true → (isPending j ≡ true) × (isCancelling (j .status) ≡ true))
+      (holds a (h .core .devices (need (layoutOf p) a (h .core .jobs a))) ≡ false → (isPending j ≡ false) × (j .result .0 ≡ 3))
+      × (holds a (h .core .devices (need (layoutOf p) a (h .core .jobs a))) ≡ true → (isPending j ≡ true) × (isCancelling (j .status) ≡ true))
   unfolding step cancel
   cancel-accepted e =
       rw (eq-eqb (cancelNumber p (h .core) a) 0 e) (λ o. rw (o, upd-same) (refl, refl), λ o. rw (o, upd-same) (refl, refl))
 
 -- a device where a request runs is known
-running-known : (p : Plan) → WellFormed p → (c : Core) → Reachable (layoutOf p) (admits p) c → (d a polls : ℕ) → c .devices d ≡ Runs a polls → d < p .«device_count»
+running-known : (p : Plan) → WellFormed p → (c : Core) → Reachable (layoutOf p) (admits p) c → (d a polls : ℕ) → c .devices d .state ≡ Runs a polls → d < p .«device_count»
 unfolding layoutOf
 running-known p w c r d a polls e =
-    let run = rw e at (r .devices d) in
+    let run = rw e at (r .devices d .state) in
     let fits = r .jobs a (run .pending) in
     subst (λ n. n < p .«device_count») (run .needed)
     (segment-device p w a (c .jobs a .task) (admitted p a (c .jobs a .task) (fits .known) (fits .admitted)) (c .jobs a .processed) (fits .more))
@@ -92,7 +92,7 @@ running-known p w c r d a polls e =
 pub demand2 : (p : Plan) → WellFormed p → (h : History) → Reachable (layoutOf p) (admits p) (h .core) → Fits p h → Demand1 p h → (a : ℕ) →
     Demand2 p h a
 demand2 p w h reach fits first a =
-    let known : (d polls : ℕ) → h .core .devices d ≡ Runs a polls → d < p .«device_count» = λ d polls. running-known p w (h .core) reach d a polls in
+    let known : (d polls : ℕ) → h .core .devices d .state ≡ Runs a polls → d < p .«device_count» = λ d polls. running-known p w (h .core) reach d a polls in
     record {
       joined-so-far = fits a .joined-is;
       joined-whole = λ e r k.

@@ -22,7 +22,7 @@ use Rattle.rules.specs.Admitted.{job-admitted, cancel-admitted}
 use Rattle.rules.specs.Admission.{admits, jobNumber, releaseNumber, cancelNumber, roundNumber}
 use Rattle.rules.specs.History.{Call, submit, releases, cancels, asks, round, History, lent, start, roundOf, submitted, step, run}
 use Rattle.rules.specs.Layout.{layoutOf, layoutAt}
-use Rattle.rules.specs.Machine.{Core, isPending, begun, secondHalf, isOwn, waitOf, cancelIf, cancel, begin, release}
+use Rattle.rules.specs.Machine.{Core, isPending, begun, need, holds, secondHalf, cancelIf, cancel, begin, release}
 use Rattle.rules.specs.PlanLaws.{admitted}
 use Rattle.rules.specs.Reachable.{Reachable}
 use Rattle.rules.specs.Requests.{running-on}
@@ -57,7 +57,7 @@ module _ (p : Plan) (w : WellFormed p) where
       let same = untouched p answers h r n n (le-refl n) in
       take-case p n x before a (DoneFits p a)
       (λ q e.
-      let runs = sym (same .device) ∙ e in
+      let runs = sym (ap (λ x. x .state) (same .device)) ∙ e in
       taken-fits p a w (verdictOn p (Runs a q) x (before .core .jobs) (before .memory)) (ltb (q + 1) (layoutOf p .limit n))
       (ap isPending (same .job a q runs) ∙ running-on r runs .pending) (ih a))
       (ih a)
@@ -84,7 +84,7 @@ module _ (p : Plan) (w : WellFormed p) where
   cancel-fits : (b : ℕ) (c : Core) (done : ℕ → List Segment) → isPending (c .jobs b) ≡ true → AllFit p (c .jobs) done →
       AllFit p (cancel (layoutOf p) b c .jobs) done
   unfolding cancel
-  cancel-fits b c done h f = go (isOwn (waitOf (layoutOf p) c b))
+  cancel-fits b c done h f = go (holds b (c .devices (need (layoutOf p) b (c .jobs b))))
     where
       go : (t : Bool) → AllFit p (cancelIf t b c .jobs) done
       go true = job-fits p b f (cancelled-fits p b h (f b))

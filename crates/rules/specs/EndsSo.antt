@@ -2,27 +2,25 @@
 use Prim.Native.Nat.{ℕ, zero, suc}
 use mathlib.Core.Bool.{Bool, true, false, true≢false}
 use mathlib.Core.List.{List}
-use mathlib.Core.Path.{_≡_, refl, sym, subst, _∙_}
+use mathlib.Core.Path.{_≡_, refl, sym, ap, subst, _∙_}
 use native.Mathlib.Nat.{le-refl}
-use native.Mathlib.Omega.{arith}
 use borrow.Author.Tests.{eqb-true}
 use Rattle.arith.specs.Cases.{and-elim}
 use Rattle.arith.specs.Parts.{upd, upd-same, upd-other, upd-case, same-or}
 use Rattle.memory.specs.declared.DeviceAnswer.{DeviceAnswer}
-use Rattle.memory.specs.declared.DeviceAnswer.the-variants as Answers
 use Rattle.plan.specs.declared.records.Plan.{Plan}
 use Rattle.segment.specs.Segments.{isLock}
-use Rattle.state.specs.declared.DeviceState.{DeviceState}
-use Rattle.state.specs.declared.DeviceState.the-variants.{Free, LockedFor}
+use Rattle.state.specs.declared.Device.{Device}
+use Rattle.state.specs.declared.DeviceState.the-variants.{LockedFor}
 use Rattle.state.specs.declared.Job.{Job}
 use Rattle.rules.specs.Admission.{admits, jobNumber, releaseNumber, cancelNumber, roundNumber}
 use Rattle.rules.specs.History.{Call, submit, releases, cancels, asks, round, History, lent, submitted, roundOf, step}
 use Rattle.rules.specs.Layout.{layoutOf, layoutAt}
-use Rattle.rules.specs.Machine.{Core, isPending, withBoth, begun, ended, cancelled, ready, secondHalf, isOwn, waitOf, cancelIf, cancel, begin, release}
+use Rattle.rules.specs.Machine.{Core, isPending, withBoth, begun, ended, cancelled, ready, doing, need, holds, secondHalf, cancelIf, cancel, begin, release}
 use Rattle.rules.specs.Memory.{Memory}
 use Rattle.rules.specs.Reachable.{Reachable}
 use Rattle.rules.specs.Round.{answerOf, takeAll, roundHalves}
-use Rattle.rules.specs.StepLaws.{take-case, untouched, start-case, accept-case}
+use Rattle.rules.specs.StepLaws.{take-case, untouched, Unlocked, start-case, accept-case}
 use Rattle.rules.specs.Ends.{taken-so}
 use Rattle.rules.specs.Results.{Ends, by-cancel, by-lock, by-answer}
 
@@ -36,16 +34,16 @@ still p h a e f = absurd (true≢false (sym e ∙ f))
 
 -- a reason stays one where area a's job and the locks for it stay
 ends-stay : (p : Plan) (h : History) (a : ℕ) {c : Call} {r : ℕ} {e f : Core} → f .jobs a ≡ e .jobs a →
-    ((d : ℕ) → e .devices d ≡ LockedFor a → f .devices d ≡ LockedFor a) → Ends p h e a c r → Ends p h f a c r
+    ((d : ℕ) → e .devices d .state ≡ LockedFor a → f .devices d .state ≡ LockedFor a) → Ends p h e a c r → Ends p h f a c r
 ends-stay p h a s l (by-cancel o) = by-cancel o
 ends-stay p h a s l (by-lock k g) = by-lock (rw s k) (rw s (l _ g))
 ends-stay p h a s l (by-answer d q e x) = by-answer d q e x
 
--- a free device changes, and no lock is lost
-free-changes : (devices : ℕ → DeviceState) (n : ℕ) (y : DeviceState) → devices n ≡ Free → {a : ℕ} (d : ℕ) → devices d ≡ LockedFor a →
-    upd devices n y d ≡ LockedFor a
+-- a device that is not locked changes, and no lock is lost
+free-changes : (devices : ℕ → Device) (n : ℕ) (y : Device) → Unlocked (devices n .state) → {a : ℕ} (d : ℕ) → devices d .state ≡ LockedFor a →
+    upd devices n y d .state ≡ LockedFor a
 free-changes devices n y e {a} d f =
-    upd-case (λ x. x ≡ LockedFor a) devices n d y (λ g. let z : _≡_ {A = ℕ} 0 1 = cc in absurd (omega arith)) (λ _. f)
+    upd-case (λ x. x .state ≡ LockedFor a) devices n d y (λ g. absurd (subst Unlocked (ap (λ i. devices i .state) g ∙ f) e)) (λ _. f)
 
 -- area a's lock request is given
 lock-so : (p : Plan) (h : History) (a n : ℕ) (e : Core) {answers : List DeviceAnswer} {m : Memory} → ready (layoutAt p (h .ages)) e n a ≡ true →
@@ -54,7 +52,7 @@ unfolding ready
 lock-so p h a n e r k _ =
     let names = eqb-true _ n (and-elim (isPending (e .jobs a)) _ r .1) in
     rw upd-same
-    (by-lock (rw upd-same k) (rw upd-same (subst (λ d. upd (e .devices) n (LockedFor a) d ≡ LockedFor a) (sym names) (upd-same _ n _))))
+    (by-lock (rw upd-same k) (rw upd-same (subst (λ d. upd (e .devices) n (doing (LockedFor a) (e .devices n)) d .state ≡ LockedFor a) (sym names) (ap (λ x. x .state) (upd-same (e .devices) n (doing (LockedFor a) (e .devices n)))))))
 
 module _ (p : Plan) (answers : List DeviceAnswer) (m : Memory) (h : History) (r : Reachable (layoutOf p) (admits p) (h .core)) (a : ℕ)
     (pending : isPending (h .core .jobs a) ≡ true) where
@@ -69,7 +67,7 @@ module _ (p : Plan) (answers : List DeviceAnswer) (m : Memory) (h : History) (r 
       let same = untouched p answers (lent m h) r n n (le-refl n) in
       take-case p n x before a (λ j _. isPending j ≡ false → Ends p h e a (round answers m) (j .result .0))
       (λ q f k.
-      let runs = sym (same .device) ∙ f in
+      let runs = sym (ap (λ x. x .state) (same .device)) ∙ f in
       let job = same .job a q runs in
       by-answer n q runs (rw job (taken-so p n a q (h .core .jobs a) (before .memory) pending x _ refl (rw job at k))))
       (first-half-so e n)
@@ -89,22 +87,22 @@ module _ (p : Plan) (answers : List DeviceAnswer) (m : Memory) (h : History) (r 
       (lock-so p h a n e)
       (λ g r k l.
       let same = upd-other (e .jobs) b a (ended 0 (e .jobs b)) (λ q. g (sym q)) in
-      rw same (ends-stay p h a same (free-changes _ n _ free) (ih (rw same at l))))
+      rw same (ends-stay p h a same (free-changes _ n _ (rw free tt)) (ih (rw same at l))))
       r k)
       (λ b free l. ends-stay p h a refl (free-changes _ n _ free) (ih l))
 
 -- area a's job is cancelled
 cancel-so : (p : Plan) (h : History) (a b : ℕ) → isPending (h .core .jobs a) ≡ true → EndsSo p h a (cancels b) (cancel (layoutOf p) b (h .core))
 unfolding cancel
-cancel-so p h a b pending = go (isOwn (waitOf (layoutOf p) (h .core) b)) refl
+cancel-so p h a b pending = go (holds b (h .core .devices (need (layoutOf p) b (h .core .jobs b)))) refl
   where
     jobs : ℕ → Job
     jobs = h .core .jobs
 
-    go : (t : Bool) → isOwn (waitOf (layoutOf p) (h .core) b) ≡ t → EndsSo p h a (cancels b) (cancelIf t b (h .core))
+    go : (t : Bool) → holds b (h .core .devices (need (layoutOf p) b (h .core .jobs b))) ≡ t → EndsSo p h a (cancels b) (cancelIf t b (h .core))
     go true = λ e. still p h a (upd-case (λ j. isPending j ≡ true) jobs b a (cancelled (jobs b)) (λ _. refl) (λ _. pending))
     go false =
-        same-or (λ b. isOwn (waitOf (layoutOf p) (h .core) b) ≡ false → EndsSo p h a (cancels b) (cancelIf false b (h .core))) a b
+        same-or (λ b. holds b (h .core .devices (need (layoutOf p) b (h .core .jobs b))) ≡ false → EndsSo p h a (cancels b) (cancelIf false b (h .core))) a b
         (λ e _. rw upd-same (by-cancel e))
         (λ g _. still p h a (rw (upd-other jobs b a (ended 3 (jobs b)) (λ q. g (sym q))) pending))
 

@@ -11,8 +11,7 @@ use Rattle.memory.specs.declared.LogicalAddress.{LogicalAddress}
 use Rattle.memory.specs.declared.Task.{Task}
 use Rattle.plan.specs.declared.records.Plan.{Plan}
 use Rattle.segment.specs.declared.Segment.{Segment}
-use Rattle.state.specs.Fresh.{noJob}
-use Rattle.state.specs.declared.DeviceState.the-variants.{Free}
+use Rattle.state.specs.Fresh.{noJob, freeDevice}
 use Rattle.rules.specs.Ranks.{agesAfter}
 use Rattle.rules.specs.Layout.{layoutOf, layoutAt}
 use Rattle.rules.specs.Machine.{Core, Wait, own, above, below, locked, none, isPending, waitOf, begin, cancel, release}
@@ -61,7 +60,7 @@ pub record History : Type 0 where
 unfoldable pub start : History
 start =
     record {
-      core = record { jobs = λ a. noJob; devices = λ d. Free };
+      core = record { jobs = λ a. noJob; devices = λ d. freeDevice };
       ages = λ a. a;
       tallies = λ a. noTally;
       done = λ a. [];

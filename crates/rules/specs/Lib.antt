@@ -44,6 +44,7 @@ pub mod Ends
 pub mod EndsSo
 pub mod Demand2
 pub mod FirstCome
+pub mod GivesWay
 pub mod ByAcceptance
 pub mod Demands
 pub mod Reached

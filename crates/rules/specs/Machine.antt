@@ -1,15 +1,19 @@
 -- document 01, "Areas at rest and in work" and "A round": the machine of jobs and devices
 use Prim.Native.Nat.{ℕ, zero, suc, _+_, _-_}
-use mathlib.Core.Bool.{Bool, true, false, _&&_}
+use mathlib.Core.Bool.{Bool, true, false, not, _&&_, _||_}
 use lib.Dec.{ltb, leb, eqb}
 use Rattle.arith.specs.Cases.{pick}
 use Rattle.arith.specs.Parts.{upd}
 use Rattle.memory.specs.declared.JobStatus.{JobStatus}
 use Rattle.memory.specs.declared.JobStatus.the-variants.{Idle, Pending, Cancelling}
+use Rattle.memory.specs.declared.JobType.{JobType}
 use Rattle.memory.specs.declared.Task.{Task}
-use Rattle.segment.specs.Segments.{isLock}
+use Rattle.segment.specs.Segments.{isLock, isErase}
 use Rattle.segment.specs.declared.Segment.{Segment}
+use Rattle.state.specs.declared.Device.{Device}
 use Rattle.state.specs.declared.DeviceState.{DeviceState}
+use Rattle.state.specs.declared.Suspended.{Suspended}
+use Rattle.state.specs.declared.Suspended.the-variants as Kept
 use Rattle.state.specs.declared.DeviceState.the-variants.{Free, Runs, LockedFor}
 use Rattle.state.specs.declared.Job.{Job}
 use Rattle.rules.specs.Layout.{Layout}
@@ -17,16 +21,23 @@ use Rattle.rules.specs.Layout.{Layout}
 -- what moves: each area's latest job, and what each device does
 pub record Core : Type 0 where
   pub jobs : ℕ → Job
-  pub devices : ℕ → DeviceState
+  pub devices : ℕ → Device
+
+-- what is suspended on a device stays
+abbrev pub doing : DeviceState → Device → Device
+doing x y = record { state = x; suspended = y .suspended }
 
 abbrev pub withDevice : ℕ → DeviceState → Core → Core
-withDevice d x c = record { jobs = c .jobs; devices = upd (c .devices) d x }
+withDevice d x c = record { jobs = c .jobs; devices = upd (c .devices) d (doing x (c .devices d)) }
 
 abbrev pub withJob : ℕ → Job → Core → Core
 withJob a j c = record { jobs = upd (c .jobs) a j; devices = c .devices }
 
 abbrev pub withBoth : ℕ → Job → ℕ → DeviceState → Core → Core
-withBoth a j d x c = record { jobs = upd (c .jobs) a j; devices = upd (c .devices) d x }
+withBoth a j d x c = record { jobs = upd (c .jobs) a j; devices = upd (c .devices) d (doing x (c .devices d)) }
+
+abbrev pub withStates : ℕ → DeviceState → Suspended → Core → Core
+withStates d x s c = record { jobs = c .jobs; devices = upd (c .devices) d (record { state = x; suspended = s }) }
 
 -- a cancelled job whose request still runs is pending: "the area stays pending"
 abbrev pub isPendingStatus : JobStatus → Bool
@@ -120,7 +131,7 @@ takeOn p d v (LockedFor a) c = c
 takeOn p d v (Runs a polls) c = takeRunning p d a polls v (ltb (polls + 1) (p .limit d)) c
 
 unfoldable pub takeAnswer : Layout → ℕ → Verdict → Core → Core
-takeAnswer p d v c = takeOn p d v (c .devices d) c
+takeAnswer p d v c = takeOn p d v (c .devices d .state) c
 
 -- the first half: the devices below n have taken their answers
 unfoldable pub firstHalf : Layout → (ℕ → Verdict) → ℕ → Core → Core
@@ -154,14 +165,36 @@ abbrev pub startChoice : ℕ → Choice → Core → Core
 startChoice d nobody c = c
 startChoice d (area a) c = startJob d a (isLock (c .jobs a .task .kind)) c
 
--- "A locked device starts nothing, also for the holder."
-abbrev pub startOn : Layout → ℕ → DeviceState → Core → Core
-startOn p d Free c = startChoice d (best p c d (p .areas)) c
-startOn p d (LockedFor a) c = c
-startOn p d (Runs a polls) c = c
+-- document 02, 02: "its next piece is no erase"; "A lock request has no piece and parks nothing."
+abbrev pub displaces : JobType → Bool
+displaces k = not (isErase k) && not (isLock k)
+
+-- Area b's erase, with its polls, runs or is suspended on device d; the choice is the highest ranked of all jobs there, the erase's
+-- own among them. "the erase is parked with its polls kept and that piece starts"; else it goes on, or "resumes". A choice that
+-- displaces is not b's, so it outranks b. Test: does the choice displace an erase?
+abbrev pub eraseOr : ℕ → ℕ → ℕ → ℕ → Bool → Core → Core
+eraseOr d b polls a true c = withStates d (Runs a 0) (Kept.Erase b polls) c
+eraseOr d b polls a false c = withStates d (Runs b polls) Kept.Nothing c
+
+abbrev pub eraseOrChoice : ℕ → ℕ → ℕ → Choice → Core → Core
+eraseOrChoice d b polls nobody c = withStates d (Runs b polls) Kept.Nothing c
+eraseOrChoice d b polls (area a) c = eraseOr d b polls a (displaces (c .jobs a .task .kind)) c
+
+-- a request runs and nothing is suspended. Test: is it an erase on a device that can suspend it?
+abbrev pub startOver : Layout → ℕ → ℕ → ℕ → Bool → Core → Core
+startOver p d b polls true c = eraseOrChoice d b polls (best p c d (p .areas)) c
+startOver p d b polls false c = c
+
+-- "A locked device starts nothing, also for the holder." "One erase is parked per chip, no lock is given meanwhile"
+abbrev pub startOn : Layout → ℕ → DeviceState → Suspended → Core → Core
+startOn p d Free Kept.Nothing c = startChoice d (best p c d (p .areas)) c
+startOn p d Free (Kept.Erase b polls) c = eraseOrChoice d b polls (best p c d (p .areas)) c
+startOn p d (LockedFor a) s c = c
+startOn p d (Runs b polls) Kept.Nothing c = startOver p d b polls (p .suspends d && isErase (c .jobs b .task .kind)) c
+startOn p d (Runs b polls) (Kept.Erase a kept) c = c
 
 unfoldable pub start : Layout → ℕ → Core → Core
-start p d c = startOn p d (c .devices d) c
+start p d c = startOn p d (c .devices d .state) (c .devices d .suspended) c
 
 -- the second half: the devices below n have picked
 unfoldable pub secondHalf : Layout → ℕ → Core → Core
@@ -186,7 +219,7 @@ waitOn p a (Runs b polls) = behind p a b
 
 -- which wait area a's pending job has
 abbrev pub waitOf : Layout → Core → ℕ → Wait
-waitOf p c a = waitOn p a (c .devices (need p a (c .jobs a)))
+waitOf p c a = waitOn p a (c .devices (need p a (c .jobs a)) .state)
 
 abbrev pub isOwn : Wait → Bool
 isOwn own = true
@@ -195,14 +228,27 @@ isOwn below = false
 isOwn locked = false
 isOwn none = false
 
+-- does a device run area a's request, or keep it suspended?
+abbrev pub runsFor : ℕ → DeviceState → Bool
+runsFor a Free = false
+runsFor a (LockedFor b) = false
+runsFor a (Runs b polls) = eqb b a
+
+abbrev pub keptFor : ℕ → Suspended → Bool
+keptFor a Kept.Nothing = false
+keptFor a (Kept.Erase b polls) = eqb b a
+
+abbrev pub holds : ℕ → Device → Bool
+holds a x = runsFor a (x .state) || keptFor a (x .suspended)
+
 -- "A cancel ends a job without a running request immediately, result 3. With one running, the area stays pending".
--- Test: does its request run?
+-- "a cancelled parked erase ends when its resumed request ends". Test: does its request run, or is it suspended?
 abbrev pub cancelIf : Bool → ℕ → Core → Core
 cancelIf true a c = withJob a (cancelled (c .jobs a)) c
 cancelIf false a c = withJob a (ended 3 (c .jobs a)) c
 
 unfoldable pub cancel : Layout → ℕ → Core → Core
-cancel p a c = cancelIf (isOwn (waitOf p c a)) a c
+cancel p a c = cancelIf (holds a (c .devices (need p a (c .jobs a)))) a c
 
 unfoldable pub begin : Layout → ℕ → Task → Core → Core
 begin p a t c = withJob a (begun p a t (c .jobs a)) c

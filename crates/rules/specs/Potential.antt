@@ -6,13 +6,16 @@ use mathlib.Core.Path.{_≡_, refl}
 use native.Mathlib.Omega.{arith}
 use borrow.Author.Tests.{eqb-true, eqb-false}
 use lib.Dec.{ltb, eqb}
-use Rattle.arith.specs.Cases.{pick}
+use Rattle.arith.specs.Cases.{pick, by-bool}
 use Rattle.segment.specs.Segments.{isLock, segmentsFrom, spansAfter, ownSum, belowSum}
+use Rattle.state.specs.declared.Device.{Device}
 use Rattle.state.specs.declared.DeviceState.{DeviceState}
 use Rattle.state.specs.declared.DeviceState.the-variants.{Free, Runs, LockedFor}
 use Rattle.state.specs.declared.Job.{Job}
-use Rattle.rules.specs.Layout.{Layout}
-use Rattle.rules.specs.Machine.{isPending, due, need, Wait, own, above, below, locked, none, behind, waitOn}
+use Rattle.state.specs.declared.Suspended.{Suspended}
+use Rattle.state.specs.declared.Suspended.the-variants as Kept
+use Rattle.rules.specs.Layout.{Layout, mostBelow}
+use Rattle.rules.specs.Machine.{isPending, due, need, Wait, own, above, below, locked, none, behind, waitOn, keptFor}
 
 -- a number of rounds for each of the two
 pub record Left : Type 0 where
@@ -42,6 +45,27 @@ dueLeft below closes limit = record { own = limit; below = closes }
 dueLeft locked closes limit = record { own = limit; below = 0 }
 dueLeft none closes limit = record { own = limit; below = 0 }
 
+-- how many closes a suspended erase can still see, once it has resumed
+abbrev pub keptCloses : ℕ → Suspended → ℕ
+keptCloses limit Kept.Nothing = 0
+keptCloses limit (Kept.Erase b polls) = limit - polls
+
+-- what the try that is due can add to own where it does not run: a suspended one keeps its polls
+abbrev pub tryLeft : ℕ → ℕ → Suspended → ℕ
+tryLeft a limit s = pick (keptFor a s) (keptCloses limit s) limit
+
+abbrev pub ifBelow : Wait → ℕ → ℕ
+ifBelow below n = n
+ifBelow own n = 0
+ifBelow above n = 0
+ifBelow locked n = 0
+ifBelow none n = 0
+
+-- what a suspended erase of a lower area can add to below
+abbrev pub lowLeft : Layout → ℕ → ℕ → Suspended → ℕ
+lowLeft p a limit Kept.Nothing = 0
+lowLeft p a limit (Kept.Erase b polls) = ifBelow (behind p a b) (limit - polls)
+
 -- the limit of the device that a job needs
 abbrev pub limitOf : Layout → ℕ → Job → ℕ
 limitOf p a j = p .limit (need p a j)
@@ -52,7 +76,7 @@ laterLeft p a j =
     let later = segmentsFrom (p .segment a (j .task)) (j .task) (j .processed + due p a j .length) in
     record {
       own = limitOf p a j * j .«retries_left» + ownSum (p .limit) later;
-      below = belowSum (p .limit) (spansAfter (need p a j) later);
+      below = belowSum (mostBelow p) (spansAfter (need p a j) later);
     }
 
 -- Tests: is the job pending? Is it a lock request, which has one span and no segment?
@@ -61,11 +85,13 @@ leftBy false l u v = record { own = 0; below = 0 }
 leftBy true l u v = record { own = pick l 0 (u .own + v .own); below = u .below + pick l 0 (v .below) }
 
 -- for area a, where the device is in state x
-abbrev pub dueLeftOn : Layout → ℕ → ℕ → ℕ → DeviceState → Left
-dueLeftOn p t a limit x = dueLeft (waitOn p a x) (closesOn t limit x) limit
+abbrev pub dueLeftOn : Layout → ℕ → ℕ → ℕ → Device → Left
+dueLeftOn p t a limit x =
+    let u = dueLeft (waitOn p a (x .state)) (closesOn t limit (x .state)) (tryLeft a limit (x .suspended)) in
+    record { own = u .own; below = u .below + lowLeft p a limit (x .suspended) }
 
 -- what is left of area a's job, from the state x of the device that it needs
-unfoldable pub leftOf : Layout → ℕ → ℕ → Job → DeviceState → Left
+unfoldable pub leftOf : Layout → ℕ → ℕ → Job → Device → Left
 leftOf p t a j x = leftBy (isPending j) (isLock (j .task .kind)) (dueLeftOn p t a (limitOf p a j) x) (laterLeft p a j)
 
 -- the wait of area a where area b's request runs is own, above or below
@@ -88,16 +114,25 @@ fewer-closes locked m n limit h = omega arith
 fewer-closes none m n limit h = omega arith
 
 -- the try that is due adds at most the limit to own, and what runs at most its closes to below
-pub due-most : (p : Layout) (t a limit : ℕ) (x : DeviceState) →
-    AtMost (dueLeftOn p t a limit x) (record { own = limit; below = closesOn t limit x })
-due-most p t a limit x = by-wait (waitOn p a x) (closesOn t limit x) (closes x)
+pub due-most : (p : Layout) (t a limit : ℕ) (x : Device) →
+    AtMost (dueLeftOn p t a limit x) (record { own = limit; below = closesOn t limit (x .state) + lowLeft p a limit (x .suspended) })
+due-most p t a limit x =
+    let h = by-wait (waitOn p a (x .state)) (closesOn t limit (x .state)) (tryLeft a limit (x .suspended)) (closes (x .state)) (try-few (x .suspended)) in
+    omega (arith, h)
   where
-    by-wait : (w : Wait) (n : ℕ) → n ≤ limit → AtMost (dueLeft w n limit) (record { own = limit; below = n })
-    by-wait own n h = omega arith
-    by-wait above n h = omega arith
-    by-wait below n h = omega arith
-    by-wait locked n h = omega arith
-    by-wait none n h = omega arith
+    by-wait : (w : Wait) (n m : ℕ) → n ≤ limit → m ≤ limit → AtMost (dueLeft w n m) (record { own = limit; below = n })
+    by-wait own n m h k = omega arith
+    by-wait above n m h k = omega arith
+    by-wait below n m h k = omega arith
+    by-wait locked n m h k = omega arith
+    by-wait none n m h k = omega arith
+
+    kept-few : (s : Suspended) → keptCloses limit s ≤ limit
+    kept-few Kept.Nothing = omega arith
+    kept-few (Kept.Erase b q) = omega arith
+
+    try-few : (s : Suspended) → tryLeft a limit s ≤ limit
+    try-few s = let h = kept-few s in by-bool (keptFor a s) (λ e. rw e h) (λ e. rw e (omega arith))
 
     closes : (x : DeviceState) → closesOn t limit x ≤ limit
     closes Free = omega arith
@@ -118,25 +153,26 @@ left-sum true false u v = omega arith
 
 module _ (p : Layout) (a : ℕ) (j : Job) where
   -- a change on the device it needs that leaves the due try no more leaves the job no more
-  pub due-falls : (t u : ℕ) (x y : DeviceState) →
+  pub due-falls : (t u : ℕ) (x y : Device) →
       AtMost (dueLeftOn p u a (limitOf p a j) y) (dueLeftOn p t a (limitOf p a j) x) → AtMost (leftOf p u a j y) (leftOf p t a j x)
   unfolding leftOf
   due-falls t u x y h = left-mono (isPending j) (isLock (j .task .kind)) _ _ (laterLeft p a j) h
 
   -- a job that is over has nothing left
-  pub left-idle : (t : ℕ) (x : DeviceState) → isPending j ≡ false → leftOf p t a j x ≡ record { own = 0; below = 0 }
+  pub left-idle : (t : ℕ) (x : Device) → isPending j ≡ false → leftOf p t a j x ≡ record { own = 0; below = 0 }
   unfolding leftOf
   left-idle t x h = rw h
 
   -- a job has at most a whole try left, the closes of what runs, and what comes later
-  pub left-most : (t : ℕ) (x : DeviceState) → AtMost (leftOf p t a j x)
-      (record { own = limitOf p a j + laterLeft p a j .own; below = closesOn t (limitOf p a j) x + laterLeft p a j .below })
+  pub left-most : (t : ℕ) (x : Device) → AtMost (leftOf p t a j x)
+      (record { own = limitOf p a j + laterLeft p a j .own; below = closesOn t (limitOf p a j) (x .state) + lowLeft p a (limitOf p a j) (x .suspended) + laterLeft p a j .below })
   unfolding leftOf
   left-most t x =
       let most = due-most p t a (limitOf p a j) x in
       omega (arith, left-sum (isPending j) (isLock (j .task .kind)) (dueLeftOn p t a (limitOf p a j) x) (laterLeft p a j))
 
-  -- a pending job that is no lock request has at least left what comes later
-  pub later-left : (t : ℕ) (x : DeviceState) → isPending j ≡ true → isLock (j .task .kind) ≡ false → AtMost (laterLeft p a j) (leftOf p t a j x)
+  -- a pending job that is no lock request has at least left what comes later, and what a lower suspended erase takes
+  pub later-left : (t : ℕ) (x : Device) → isPending j ≡ true → isLock (j .task .kind) ≡ false →
+      AtMost (record { own = laterLeft p a j .own; below = lowLeft p a (limitOf p a j) (x .suspended) + laterLeft p a j .below }) (leftOf p t a j x)
   unfolding leftOf
   later-left t x h k = rw (h, k) (omega arith)

@@ -38,7 +38,7 @@ jobInfoOf p c w a =
       result = j .result;
       processed = j .processed;
       waits = w;
-      request = requestOn a (due (layoutOf p) a j) (c .devices (need (layoutOf p) a j));
+      request = requestOn a (due (layoutOf p) a j) (c .devices (need (layoutOf p) a j) .state);
     }
 
 -- "memory info of 000": of the sub-area that holds the address. The logical start of that sub-area is the address less its offset there.

@@ -77,7 +77,7 @@ pub record ImageActed (p : Plan) (c : Core) (answers : List DeviceAnswer) (x d :
   pub known : d < p .«device_count»
   pub area : ℕ
   pub polls : ℕ
-  pub runs : c .devices d ≡ Runs area polls
+  pub runs : c .devices d .state ≡ Runs area polls
   pub inside : Among (requestOf p c area .start .0) (actedBytes (answerOf answers d) (c .jobs area .task .kind) (requestOf p c area .length)) x
 
 -- It becomes this: "Window bytes are those of this moment, at the processed length from the window's start". Memory m is that
@@ -91,7 +91,7 @@ pub record StoreActed (p : Plan) (c : Core) (answers : List DeviceAnswer) (x d :
   pub known : d < p .«device_count»
   pub area : ℕ
   pub polls : ℕ
-  pub runs : c .devices d ≡ Runs area polls
+  pub runs : c .devices d .state ≡ Runs area polls
   pub inside : Among (windowPlace p area (c .jobs area)) (broughtBytes (answerOf answers d) (c .jobs area .task .kind) (requestOf p c area .length)) x
 
 -- It becomes this: "the window part becomes the image bytes".

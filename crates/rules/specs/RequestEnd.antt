@@ -6,26 +6,28 @@ use native.Mathlib.Nat.{mul-suc}
 use native.Mathlib.Omega.{arith}
 use lib.Dec.{leb, eqb}
 use borrow.Author.Tests.{leb-false, eqb-false, eq-eqb}
-use Rattle.arith.specs.Cases.{pick}
+use Rattle.arith.specs.Cases.{pick, by-bool}
 use Rattle.memory.specs.declared.Task.{Task}
 use Rattle.segment.specs.declared.Segment.{Segment}
-use Rattle.state.specs.declared.DeviceState.{DeviceState}
+use Rattle.state.specs.declared.Device.{Device}
 use Rattle.state.specs.declared.Job.{Job}
 use Rattle.rules.specs.Laws.{Laws}
-use Rattle.rules.specs.Layout.{Layout}
+use Rattle.rules.specs.Layout.{Layout, mostBelow}
 use Rattle.rules.specs.Machine.{isPending, isCancelling, due, need, ended, moved}
 use Rattle.rules.specs.Machine.{afterFailed, jobFailed, afterFinished, jobFinished, afterDiffers, jobDiffers}
-use Rattle.rules.specs.Potential.{AtMost, closesOn, limitOf, laterLeft, leftOf, left-idle, left-most}
+use Rattle.rules.specs.Potential.{AtMost, closesOn, lowLeft, limitOf, laterLeft, leftOf, left-idle, left-most}
 use Rattle.rules.specs.Reachable.{JobFits}
 use Rattle.rules.specs.SegmentSums.{own-next, below-next}
 
--- The job j of area a, whose request ends, becomes k. Where the next segment is on another device, that may run another area.
+-- The job j of area a, whose request ends, becomes k. Where the next segment is on another device, that may run another area and keep
+-- a third suspended; on the same device nothing runs, and a suspended erase takes `low` at most, as before.
 pub record Settled (p : Layout) (admits : ℕ → Task → Bool) (a : ℕ) (j k : Job) : Type 0 where
   pub task : k .task ≡ j .task
   pub fits : isPending k ≡ true → JobFits p admits a k
   pub over : isCancelling (k .status) ≡ false
-  pub left : (t : ℕ) (x : DeviceState) → closesOn t (limitOf p a k) x ≤ pick (eqb (need p a j) (need p a k)) 0 (limitOf p a k - 1) →
-      AtMost (leftOf p t a k x) (laterLeft p a j)
+  pub left : (t low : ℕ) (x : Device) →
+      closesOn t (limitOf p a k) (x .state) + lowLeft p a (limitOf p a k) (x .suspended) ≤ pick (eqb (need p a j) (need p a k)) low (mostBelow p (need p a k)) →
+      AtMost (leftOf p t a k x) (record { own = laterLeft p a j .own; below = low + laterLeft p a j .below })
 
 module _ (p : Layout) (admits : ℕ → Task → Bool) (L : Laws p admits) (a : ℕ) (j : Job) (f : JobFits p admits a j) where
   -- the job ends
@@ -35,7 +37,7 @@ module _ (p : Layout) (admits : ℕ → Task → Bool) (L : Laws p admits) (a : 
         task = e;
         fits = λ i. absurd (false≢true i);
         over = refl;
-        left = λ t x _. rw (left-idle p a (ended r k) t x refl) (omega arith);
+        left = λ t low x _. rw (left-idle p a (ended r k) t x refl) (omega arith);
       }
 
   -- the job goes on at x with r retries; what a try there can add was left for later before
@@ -43,14 +45,19 @@ module _ (p : Layout) (admits : ℕ → Task → Bool) (L : Laws p admits) (a : 
       let k = moved x r j in
       AtMost (record {
         own = limitOf p a k + laterLeft p a k .own;
-        below = pick (eqb (need p a j) (need p a k)) 0 (limitOf p a k - 1) + laterLeft p a k .below;
+        below = pick (eqb (need p a j) (need p a k)) 0 (mostBelow p (need p a k)) + laterLeft p a k .below;
       }) (laterLeft p a j) → Settled p admits a j k
   moved-settled x r n h i m =
       record {
         task = refl;
         fits = λ _. record { known = f .known; admitted = f .admitted; more = h; retries = i };
         over = n;
-        left = λ t y c. omega (arith, m, left-most p a (moved x r j) t y);
+        left = λ t low y c.
+            let k = moved x r j in
+            let most = left-most p a k t y in
+            by-bool (eqb (need p a j) (need p a k))
+            (λ e. let m = rw e at m in let c = rw e at c in omega (arith, m, most, c))
+            (λ e. let m = rw e at m in let c = rw e at c in omega (arith, m, most, c));
       }
 
   -- "with a retry left the same piece is due again, otherwise the job ends"
@@ -101,4 +108,4 @@ module _ (p : Layout) (admits : ℕ → Task → Bool) (L : Laws p admits) (a : 
       go false false c e =
           let h = leb-false (j .task .length) x e in
           moved-settled x r c h (omega arith)
-          (omega (arith, own-next next (j .task) some x h (p .limit), below-next next (j .task) some x h (p .limit) (need p a j)))
+          (omega (arith, own-next next (j .task) some x h (p .limit), below-next next (j .task) some x h (mostBelow p) (need p a j)))

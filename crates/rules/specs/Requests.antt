@@ -27,7 +27,7 @@ use Rattle.rules.specs.Machine.{Core, isPending, due}
 use Rattle.rules.specs.Memory.{Memory}
 use Rattle.rules.specs.PlanLaws.{admitted}
 use Rattle.rules.specs.Reach.{requestOf}
-use Rattle.rules.specs.Reachable.{Running, DeviceFits, Reachable}
+use Rattle.rules.specs.Reachable.{Running, StateFits, Reachable}
 use Rattle.rules.specs.RequestBytes.{Request, answered, Fits, Apart}
 use Rattle.rules.specs.Round.{windowPlace, memoryOn}
 
@@ -52,14 +52,14 @@ requestOn p (Runs a polls) jobs = requestFor p a (jobs a)
 
 -- the request of device d
 abbrev pub requestAt : Plan → Core → ℕ → Request
-requestAt p c d = requestOn p (c .devices d) (c .jobs)
+requestAt p c d = requestOn p (c .devices d .state) (c .jobs)
 
 -- a device's request is none, or that of the area that it runs
 pub by-request : (p : Plan) (c : Core) (P : Request → Type 0) (d : ℕ) → P emptyRequest →
-    ((a q : ℕ) → c .devices d ≡ Runs a q → P (requestFor p a (c .jobs a))) → P (requestAt p c d)
-by-request p c P d f g = go (c .devices d) refl
+    ((a q : ℕ) → c .devices d .state ≡ Runs a q → P (requestFor p a (c .jobs a))) → P (requestAt p c d)
+by-request p c P d f g = go (c .devices d .state) refl
   where
-    go : (s : DeviceState) → c .devices d ≡ s → P (requestOn p s (c .jobs))
+    go : (s : DeviceState) → c .devices d .state ≡ s → P (requestOn p s (c .jobs))
     go Free e = f
     go (LockedFor a) e = f
     go (Runs a q) e = g a q e
@@ -117,16 +117,16 @@ pub record Placed (p : Plan) (c : Core) (a : ℕ) : Type 0 where
 
 module _ {l : Layout} {ok : ℕ → Task → Bool} {c : Core} (reach : Reachable l ok c) where
   -- what holds of an area that a device runs
-  pub running-on : {d a q : ℕ} → c .devices d ≡ Runs a q → Running l d a q (c .jobs a)
-  running-on {d} e = subst (DeviceFits l (c .jobs) d) e (reach .devices d)
+  pub running-on : {d a q : ℕ} → c .devices d .state ≡ Runs a q → Running l d a q (c .jobs a)
+  running-on {d} e = subst (StateFits l (c .jobs) d) e (reach .devices d .state)
 
   -- no two devices run one area
-  pub one-device : {d e a q r : ℕ} → c .devices d ≡ Runs a q → c .devices e ≡ Runs a r → d ≡ e
+  pub one-device : {d e a q r : ℕ} → c .devices d .state ≡ Runs a q → c .devices e .state ≡ Runs a r → d ≡ e
   one-device u v = sym (running-on u .needed) ∙ running-on v .needed
 
 module _ (p : Plan) (w : WellFormed p) (c : Core) (reach : Reachable (layoutOf p) (admits p) c) (cuts : AtCuts p c) where
   -- a request that runs is placed
-  pub placed : {d a q : ℕ} → c .devices d ≡ Runs a q → Placed p c a
+  pub placed : {d a q : ℕ} → c .devices d .state ≡ Runs a q → Placed p c a
   unfolding layoutOf
   placed {d} {a} {q} e =
       let pending = running-on reach e .pending in

@@ -12,7 +12,7 @@ use Rattle.state.specs.declared.DeviceState.the-variants.{Runs, LockedFor}
 use Rattle.state.specs.declared.Job.{Job}
 use Rattle.rules.specs.History.{Call, cancels, round, History, lent}
 use Rattle.rules.specs.Layout.{layoutOf}
-use Rattle.rules.specs.Machine.{Core, isCancelling, due, need, isOwn, waitOf}
+use Rattle.rules.specs.Machine.{Core, isCancelling, due, need, holds}
 use Rattle.rules.specs.Memory.{Memory, agrees}
 use Rattle.rules.specs.Round.{answerOf, windowPlace, takeAll}
 
@@ -48,11 +48,11 @@ pub data Answered (p : Plan) (d a polls : ℕ) (j : Job) (x : DeviceAnswer) (m :
 -- Why area a's job, pending before a call and not after it, has its result
 pub data Ends (p : Plan) (before : History) (after : Core) (a : ℕ) : Call → ℕ → Type 0 where
   -- "A cancel ends a job without a running request immediately, result 3."
-  by-cancel : isOwn (waitOf (layoutOf p) (before .core) a) ≡ false → Ends p before after a (cancels a) 3
+  by-cancel : holds a (before .core .devices (need (layoutOf p) a (before .core .jobs a))) ≡ false → Ends p before after a (cancels a) 3
   -- "A lock request locks the device for that area and ends with 0."
   by-lock : {answers : List DeviceAnswer} {m : Memory} → isLock (after .jobs a .task .kind) ≡ true →
-      after .devices (need (layoutOf p) a (after .jobs a)) ≡ LockedFor a → Ends p before after a (round answers m) 0
+      after .devices (need (layoutOf p) a (after .jobs a)) .state ≡ LockedFor a → Ends p before after a (round answers m) 0
   -- its request takes its answer, when the devices before it have taken theirs
-  by-answer : {answers : List DeviceAnswer} {m : Memory} {r : ℕ} (d polls : ℕ) → before .core .devices d ≡ Runs a polls →
+  by-answer : {answers : List DeviceAnswer} {m : Memory} {r : ℕ} (d polls : ℕ) → before .core .devices d .state ≡ Runs a polls →
       Answered p d a polls (before .core .jobs a) (answerOf answers d) (takeAll p answers d (lent m before) .memory) r →
       Ends p before after a (round answers m) r

@@ -57,7 +57,7 @@ doneOn p (Runs a polls) v jobs done = addDone v a (due (layoutOf p) a (jobs a)) 
 -- one device takes its answer
 unfoldable pub takeIn : Plan → ℕ → DeviceAnswer → Half → Half
 takeIn p d x h =
-    let state = h .core .devices d in
+    let state = h .core .devices d .state in
     let v = verdictOn p state x (h .core .jobs) (h .memory) in
     record {
       core = takeAnswer (layoutOf p) d v (h .core);

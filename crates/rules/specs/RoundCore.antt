@@ -15,7 +15,7 @@ use Rattle.rules.specs.Round.{Half, answerOf, verdictOn, takeIn, takeAll
 module _ (p : Layout) (r : ℕ → ℕ → Bool) where
   take-ranked : (d : ℕ) (v : Verdict) (c : Core) → takeAnswer p d v c ≡ takeAnswer (ranked r p) d v c
   unfolding takeAnswer jobFinished
-  take-ranked d v c = go (c .devices d)
+  take-ranked d v c = go (c .devices d .state)
     where
       taken : (a q : ℕ) (v : Verdict) (t : Bool) → takeRunning p d a q v t c ≡ takeRunning (ranked r p) d a q v t c
       taken a q goesOn true = refl
@@ -39,7 +39,7 @@ module _ (p : Plan) (answers : List DeviceAnswer) (h : Half) where
   abbrev pub verdictAt : ℕ → Verdict
   verdictAt d =
       let before = takeAll p answers d h in
-      verdictOn p (before .core .devices d) (answerOf answers d) (before .core .jobs) (before .memory)
+      verdictOn p (before .core .devices d .state) (answerOf answers d) (before .core .jobs) (before .memory)
 
   -- the first half
   pub take-core : (n : ℕ) → takeAll p answers n h .core ≡ firstHalf (layoutOf p) verdictAt n (h .core)
@@ -47,8 +47,12 @@ module _ (p : Plan) (answers : List DeviceAnswer) (h : Half) where
   take-core zero = refl
   take-core (suc n) = ap (takeAnswer (layoutOf p) n (verdictAt n)) (take-core n)
 
+  -- the same with the rank of a moment
+  pub take-ranked-core : (ages : ℕ → ℕ) (n : ℕ) → takeAll p answers n h .core ≡ firstHalf (layoutAt p ages) verdictAt n (h .core)
+  take-ranked-core ages n = take-core n ∙ first-ranked (layoutOf p) _ verdictAt (h .core) n
+
   -- both halves
   pub round-core : (ages : ℕ → ℕ) → let l = layoutAt p ages in
       roundHalves p ages answers h .core ≡ secondHalf l (l .devices) (firstHalf l verdictAt (l .devices) (h .core))
   unfolding roundHalves layoutOf
-  round-core ages = ap (secondHalf (layoutAt p ages) (p .«device_count»)) (take-core (p .«device_count») ∙ first-ranked (layoutOf p) _ verdictAt (h .core) (p .«device_count»))
+  round-core ages = ap (secondHalf (layoutAt p ages) (p .«device_count»)) (take-ranked-core ages (p .«device_count»))

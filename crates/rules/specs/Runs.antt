@@ -1,5 +1,5 @@
 -- Every call, and every list of calls.
-use Prim.Native.Nat.{ℕ, _<_}
+use Prim.Native.Nat.{ℕ, _<_, _≤_}
 use mathlib.Core.Bool.{true, false≢true}
 use mathlib.Core.List.{List, [], _∷_}
 use mathlib.Core.Path.{_≡_, refl, subst}
@@ -13,19 +13,20 @@ use Rattle.rules.specs.Admission.{rangeDevice, jobNumber, releaseNumber,
 use Rattle.rules.specs.Admitted.{job-admitted, release-admitted, cancel-admitted}
 use Rattle.rules.specs.Calls.{cancel-passes, release-passes, begin-reachable, begin-tally}
 use Rattle.rules.specs.Close.{TallyFits, tally-stays, halves, close-fits}
+use Rattle.rules.specs.FirstHalf.{first-half}
 use Rattle.rules.specs.History.{Call, submit, releases, cancels, asks, round, History, withCore, lent, start, roundOf, submitted, step, run}
 use Rattle.rules.specs.Laws.{Laws}
 use Rattle.rules.specs.Layout.{layoutOf, layoutAt}
 use Rattle.rules.specs.RankLaws.{AgesApart, ages-apart}
 use Rattle.rules.specs.Ranks.{agesAfter}
 use Rattle.rules.specs.Ranked.{cancel-ranked, reranked, tally-ranked, waits-kept}
-use Rattle.rules.specs.Machine.{Core, isPending, begin}
+use Rattle.rules.specs.Machine.{Core, isPending, begin, secondHalf}
 use Rattle.rules.specs.Memory.{Memory}
 use Rattle.rules.specs.Potential.{left-idle}
 use Rattle.rules.specs.Reachable.{Reachable, Passes, passed}
-use Rattle.rules.specs.Round.{roundHalves}
-use Rattle.rules.specs.RoundCore.{verdictAt, round-core}
-use Rattle.rules.specs.SecondHalf.{Started}
+use Rattle.rules.specs.Round.{takeAll, roundHalves}
+use Rattle.rules.specs.RoundCore.{verdictAt, take-ranked-core, round-core}
+use Rattle.rules.specs.SecondHalf.{Started, second-half}
 
 -- what holds of every history
 pub record HistoryFits (p : Plan) (h : History) : Type 0 where
@@ -84,6 +85,18 @@ module _ (p : Plan) (L : (ages : ℕ → ℕ) → AgesApart ages → Laws (layou
       rw (round-core p answers (lent m h) (h .ages))
       (halves l (admits p) (L (h .ages) (f .apart)) (h .core) (at (h .ages) (h .core) (f .reachable)) (verdictAt p answers (lent m h)))
 
+  -- the devices below d have picked
+  pub picks-reachable : (answers : List DeviceAnswer) (m : Memory) (h : History) → Fits h → (d : ℕ) → d ≤ p .«device_count» → let l = layoutAt p (h .ages) in
+      Reachable l (admits p) (secondHalf l d (takeAll p answers (p .«device_count») (lent m h) .core))
+  unfolding layoutOf
+  picks-reachable answers m h f d k =
+      let l = layoutAt p (h .ages) in
+      let r = at (h .ages) (h .core) (f .reachable) in
+      let taken = first-half l (admits p) (L (h .ages) (f .apart)) (verdictAt p answers (lent m h)) (h .core) r (l .devices) in
+      let first = passed r (taken .passes) in
+      rw (take-ranked-core p answers (lent m h) (h .ages) (p .«device_count»))
+      (passed first (second-half l (admits p) (L (h .ages) (f .apart)) _ first (taken .polled) d k .passes))
+
   -- an accepted round
   round-fits : (answers : List DeviceAnswer) (m : Memory) (h : History) → Fits h → Fits (roundOf p answers m h)
   unfolding roundOf
@@ -136,7 +149,7 @@ module _ (p : Plan) (L : (ages : ℕ → ℕ) → AgesApart ages → Laws (layou
   unfolding start
   start-fits =
       record {
-        reachable = record { devices = λ d. tt; jobs = λ a h. absurd (false≢true h); cancelled = λ a h. absurd (false≢true h) };
+        reachable = record { devices = λ d. record { state = tt; suspended = tt; apart = tt }; jobs = λ a h. absurd (false≢true h); cancelled = λ a h. absurd (false≢true h) };
         apart = λ a b e. e;
         tallies = λ a. record { sum = refl; by-round = λ _. refl; left = simp left-idle (omega arith) };
       }

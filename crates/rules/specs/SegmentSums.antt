@@ -1,5 +1,5 @@
 -- The segments of a job and their two sums, one segment at a time.
-use Prim.Native.Nat.{ℕ, _+_, _-_, _*_, _≤_, _<_}
+use Prim.Native.Nat.{ℕ, _+_, _*_, _≤_, _<_}
 use mathlib.Core.Path.{_≡_}
 use mathlib.Core.List.{_∷_}
 use native.Mathlib.Nat.{mul-suc}
@@ -28,13 +28,13 @@ module _ (next : ℕ → Segment) (t : Task) (some : (x : ℕ) → x < t .length
 
       -- the bound on below: the segment at x begins a span where its device is not the one before
       pub below-next : (d : ℕ) → belowSum limit (spansAfter d (segmentsFrom next t x))
-          ≡ pick (eqb d (next x .device)) 0 (limit (next x .device) - 1)
+          ≡ pick (eqb d (next x .device)) 0 (limit (next x .device))
           + belowSum limit (spansAfter (next x .device) (segmentsFrom next t (x + next x .length)))
       unfolding spansAfter belowSum
       below-next d = rw segments-next (by-eqb d (next x .device) (λ e f. rw (e, f) (omega arith)) (λ e f. rw e))
 
       -- the segment at x begins the first span
       pub below-first : belowSum limit (spans (segmentsFrom next t x))
-          ≡ limit (next x .device) - 1 + belowSum limit (spansAfter (next x .device) (segmentsFrom next t (x + next x .length)))
+          ≡ limit (next x .device) + belowSum limit (spansAfter (next x .device) (segmentsFrom next t (x + next x .length)))
       unfolding spans belowSum
       below-first = rw segments-next

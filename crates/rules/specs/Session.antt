@@ -38,7 +38,7 @@ shownOn p jobs (Runs a polls) =
 -- the devices below n
 unfoldable pub shownTo : Plan → Core → ℕ → List Shown
 shownTo p c zero = []
-shownTo p c (suc n) = shownTo p c n ++ (shownOn p (c .jobs) (c .devices n) ∷ [])
+shownTo p c (suc n) = shownTo p c n ++ (shownOn p (c .jobs) (c .devices n .state) ∷ [])
 
 abbrev pub infoEntry : Job → Tally → Entry
 infoEntry j w = info (j .result .0) (j .processed) (w .own) (w .above) (w .below) (w .locked)

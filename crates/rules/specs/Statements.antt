@@ -1,6 +1,6 @@
 -- document 00: the three demands; document 02: its requests; after every list of calls
 use Prim.Native.Nat.{ℕ, _+_, _≤_, _<_}
-use mathlib.Core.Bool.{Bool, true, false, not}
+use mathlib.Core.Bool.{Bool, true, false, not, _&&_}
 use mathlib.Core.List.{List, [], _∷_}
 use mathlib.Core.Logic.{_≢_}
 use mathlib.Core.Path.{_≡_}
@@ -17,16 +17,18 @@ use Rattle.plan.specs.Records.{planOf}
 use Rattle.plan.specs.WellFormed.{Among}
 use Rattle.plan.specs.declared.records.Plan.{Plan}
 use Rattle.segment.specs.Bytes.{joined, mappedByte, mappedBytes}
-use Rattle.segment.specs.Segments.{isLock, ownBound, belowBound}
-use Rattle.state.specs.declared.DeviceState.the-variants.{Runs}
+use Rattle.segment.specs.Segments.{isErase, isLock, ownBound, belowBound}
+use Rattle.state.specs.declared.DeviceState.the-variants.{Free, Runs}
+use Rattle.state.specs.declared.Suspended.the-variants as Kept
 use Rattle.rules.specs.Admission.{jobNumber, cancelNumber, roundNumber}
-use Rattle.rules.specs.History.{Call, submit, releases, cancels, asks, round, noTally, History, start, step, run}
-use Rattle.rules.specs.Layout.{priorityOf, layoutOf, layoutAt}
-use Rattle.rules.specs.Machine.{Core, isPending, isCancelling, isOwn, waitOf}
+use Rattle.rules.specs.History.{Call, submit, releases, cancels, asks, round, noTally, History, start, lent, step, run}
+use Rattle.rules.specs.Layout.{Layout, priorityOf, layoutOf, layoutAt, mostBelow}
+use Rattle.rules.specs.Machine as Machine
+use Rattle.rules.specs.Machine.{Core, isPending, isCancelling, need, ready, secondHalf, holds}
 use Rattle.rules.specs.Memory.{Memory}
 use Rattle.rules.specs.Reach.{callNumber, isRound, requestOf, ImageActed, imageValue, StoreActed, storeValue}
 use Rattle.rules.specs.Results.{Ends}
-use Rattle.rules.specs.Round.{answerOf, windowPlace}
+use Rattle.rules.specs.Round.{answerOf, takeAll, windowPlace}
 use Rattle.rules.specs.Session.{memoryOf}
 
 -- "The lent memory, which is the chip image and the job store, changes [..] only inside requests that the round finishes and the
@@ -72,13 +74,13 @@ pub record Demand2 (p : Plan) (h : History) (a : ℕ) : Type 0 where
       (x y : ℕ) → x < t .length → y < t .length → mappedByte p a t x ≡ mappedByte p a t y → x ≡ y
   -- "writes take them from it"
   pub done-write : (answers : List DeviceAnswer) (m : Memory) → roundNumber p (m .image) (m .store) ≡ 0 → (d polls : ℕ) →
-      h .core .devices d ≡ Runs a polls → answerOf answers d ≡ Answers.Done → h .core .jobs a .task .kind ≡ Write →
+      h .core .devices d .state ≡ Runs a polls → answerOf answers d ≡ Answers.Done → h .core .jobs a .task .kind ≡ Write →
       (k : ℕ) → k < requestOf p (h .core) a .length →
       getD (memoryOf p (round answers m) h m .image) (requestOf p (h .core) a .start .0 + k) 0
       ≡ getD (m .store) (windowPlace p a (h .core .jobs a) + k) 0
   -- "reads bring those bytes to the store"
   pub done-read : (answers : List DeviceAnswer) (m : Memory) → roundNumber p (m .image) (m .store) ≡ 0 → (d polls : ℕ) →
-      h .core .devices d ≡ Runs a polls → answerOf answers d ≡ Answers.Done → h .core .jobs a .task .kind ≡ Read →
+      h .core .devices d .state ≡ Runs a polls → answerOf answers d ≡ Answers.Done → h .core .jobs a .task .kind ≡ Read →
       (k : ℕ) → k < requestOf p (h .core) a .length →
       getD (memoryOf p (round answers m) h m .store) (windowPlace p a (h .core .jobs a) + k) 0
       ≡ getD (m .image) (requestOf p (h .core) a .start .0 + k) 0
@@ -87,8 +89,8 @@ pub record Demand2 (p : Plan) (h : History) (a : ℕ) : Type 0 where
       (isPending j ≡ true) × (j .task ≡ t) × (j .processed ≡ 0) × (j .result ≡ h .core .jobs a .result) × (e .tallies a ≡ noTally) × (e .done a ≡ [])
   -- "A cancel ends a job without a running request immediately, result 3. With one running, the area stays pending"
   pub accepted-cancel : cancelNumber p (h .core) a ≡ 0 → let j = step p (cancels a) h .core .jobs a in
-      (isOwn (waitOf (layoutOf p) (h .core) a) ≡ false → (isPending j ≡ false) × (j .result .0 ≡ 3))
-      × (isOwn (waitOf (layoutOf p) (h .core) a) ≡ true → (isPending j ≡ true) × (isCancelling (j .status) ≡ true))
+      (holds a (h .core .devices (need (layoutOf p) a (h .core .jobs a))) ≡ false → (isPending j ≡ false) × (j .result .0 ≡ 3))
+      × (holds a (h .core .devices (need (layoutOf p) a (h .core .jobs a))) ≡ true → (isPending j ≡ true) × (isCancelling (j .status) ≡ true))
   -- a job that a call ends has its result by the rules, and there are no others
   pub result-so : (k : Call) → let e = step p k h .core in isPending (h .core .jobs a) ≡ true → isPending (e .jobs a) ≡ false →
       Ends p h e a k (e .jobs a .result .0) × (e .jobs a .result .0 ≤ 3)
@@ -97,9 +99,10 @@ pub record Demand2 (p : Plan) (h : History) (a : ℕ) : Type 0 where
 abbrev pub ownMost : Plan → History → ℕ → ℕ
 ownMost p h a = let t = h .core .jobs a .task in ownBound (layoutOf p .limit) (layoutOf p .segment a t) t
 
--- "patience less one, summed over its stretches on one chip"
+-- "patience less one, summed over its stretches on one chip"; document 02, 02: "On such chips the bound on rounds below becomes twice
+-- (patience less one) per stretch, for every job type" (`spanMost`)
 abbrev pub belowMost : Plan → History → ℕ → ℕ
-belowMost p h a = let t = h .core .jobs a .task in belowBound (layoutOf p .limit) (layoutOf p .segment a t) t
+belowMost p h a = let t = h .core .jobs a .task in belowBound (mostBelow (layoutOf p)) (layoutOf p .segment a t) t
 
 -- "Each area's latest job has rounds = own + above + below + locked, and one more if a round ended it.": area a
 pub record Demand3 (p : Plan) (h : History) (a : ℕ) : Type 0 where
@@ -125,6 +128,33 @@ pub record FirstCome (p : Plan) (h : History) : Type 0 where
   -- no call changes which of two pending jobs is above
   pub kept : (k : Call) (a b : ℕ) → isPending (h .core .jobs a) ≡ true → isPending (h .core .jobs b) ≡ true →
       isAbove p (step p k h) a b ≡ isAbove p h a b
+
+-- document 02, 02: "the highest ranked ready job there (next piece or lock request on it, none of its own running or parked)": area a, on
+-- device d, which has area b's erase
+abbrev pub readyBeside : Layout → Core → ℕ → ℕ → ℕ → Bool
+readyBeside p c d b a = ready p c d a && not (eqb a b)
+
+-- it "outranks the running erase's area and its next piece is no erase"; "A lock request has no piece and parks nothing."
+pub record Qualifies (p : Layout) (c : Core) (d b a : ℕ) : Type 0 where
+  pub known : a < p .areas
+  pub is-ready : readyBeside p c d b a ≡ true
+  pub highest : (i : ℕ) → i < p .areas → readyBeside p c d b i ≡ true → i ≢ a → p .outranks a i ≡ true
+  pub above : p .outranks a b ≡ true
+  pub no-erase : isErase (c .jobs a .task .kind) ≡ false
+  pub no-lock : isLock (c .jobs a .task .kind) ≡ false
+
+-- area b's erase, with its polls, runs on device d, whose chip can pause, and none is suspended there; or it is suspended, and nothing runs
+pub data Erasing (p : Layout) (c : Core) (d b polls : ℕ) : Type 0 where
+  running : c .devices d ≡ record { state = Runs b polls; suspended = Kept.Nothing } → p .suspends d ≡ true → isErase (c .jobs b .task .kind) ≡ true →
+      Erasing p c d b polls
+  suspended : c .devices d ≡ record { state = Free; suspended = Kept.Erase b polls } → Erasing p c d b polls
+
+-- "the erase is parked with its polls kept and that piece starts"; "After each piece the parked erase resumes, unless the highest ranked
+-- ready job again qualifies."
+pub record GivesWay (p : Layout) (c : Core) (d b polls : ℕ) : Type 0 where
+  pub gives-way : (a : ℕ) → Qualifies p c d b a → Machine.start p d c .devices d ≡ record { state = Runs a 0; suspended = Kept.Erase b polls }
+  pub goes-on : ((a : ℕ) → Qualifies p c d b a → ⊥) → Machine.start p d c .devices d ≡ record { state = Runs b polls; suspended = Kept.Nothing }
+  pub jobs : Machine.start p d c .jobs ≡ c .jobs
 
 -- The calls of a list, numbered from n on: the number of the one that accepted each area's latest job. Before call k, at history h, they
 -- are `at`.
@@ -153,13 +183,20 @@ pub record Demands (l : List ℕ) (cs : List Call) : Type 0 where
   pub by-acceptance : let p = planOf l in let h = run p cs start in
       (a b : ℕ) → a ≢ b → isPending (h .core .jobs a) ≡ true → isPending (h .core .jobs b) ≡ true → priorityOf p a ≡ priorityOf p b →
       isAbove p h a b ≡ ltb (acceptedAt p cs a) (acceptedAt p cs b)
+  -- "in a round's second half": device d picks when those before it have
+  pub gives-way : let p = planOf l in let h = run p cs start in let ranks = layoutAt p (h .ages) in
+      (answers : List DeviceAnswer) (m : Memory) (d b polls : ℕ) → d < p .«device_count» →
+      let c = secondHalf ranks d (takeAll p answers (p .«device_count») (lent m h) .core) in
+      Erasing ranks c d b polls → GivesWay ranks c d b polls
 
 abbrev pub AllDemands : Type 0
 AllDemands = (l : List ℕ) → loadNumber l ≡ 0 → (cs : List Call) → Demands l cs
 
--- the bounds of demand 3 are reached: an accepted load, a list of calls and an area where own is as large as it may be, and below
-pub record BoundReached (count : History → ℕ → ℕ) (most : Plan → History → ℕ → ℕ) : Type 0 where
+-- The bounds of demand 3 are reached: an accepted load, a list of calls and an area where the count is as large as it may be; on chips that
+-- can suspend, or cannot.
+pub record BoundReached (can : Bool) (count : History → ℕ → ℕ) (most : Plan → History → ℕ → ℕ) : Type 0 where
   pub plan : List ℕ
+  pub chips : (d : ℕ) → d < planOf plan .«device_count» → layoutOf (planOf plan) .suspends d ≡ can
   pub calls : List Call
   pub area : ℕ
   pub accepted : loadNumber plan ≡ 0
@@ -167,4 +204,4 @@ pub record BoundReached (count : History → ℕ → ℕ) (most : Plan → Histo
   pub reached : count (run (planOf plan) calls start) area ≡ most (planOf plan) (run (planOf plan) calls start) area
 
 abbrev pub BoundsReached : Type 0
-BoundsReached = BoundReached (λ h a. h .tallies a .own) ownMost × BoundReached (λ h a. h .tallies a .below) belowMost
+BoundsReached = (can : Bool) → BoundReached can (λ h a. h .tallies a .own) ownMost × BoundReached can (λ h a. h .tallies a .below) belowMost

@@ -1,23 +1,26 @@
 -- What one step of a round does to one area, and what it leaves alone.
 use Prim.Native.Nat.{ℕ, zero, suc, _+_, _≤_}
-use mathlib.Core.Bool.{Bool, true, false}
+use mathlib.Core.Bool.{Bool, true, false, _&&_}
 use mathlib.Core.List.{List, [], _∷_, _++_}
-use mathlib.Core.Path.{_≡_, refl, sym, _∙_}
+use mathlib.Core.Path.{_≡_, refl, sym, ap, _∙_}
 use native.Mathlib.Omega.{arith}
 use lib.Dec.{ltb, eqb}
 use Rattle.arith.specs.Cases.{pick, by-eqb}
-use Rattle.arith.specs.Parts.{upd-same, upd-other, same-or}
+use Rattle.arith.specs.Parts.{upd, upd-same, upd-other, same-or}
 use Rattle.memory.specs.declared.DeviceAnswer.{DeviceAnswer}
 use Rattle.plan.specs.declared.records.Plan.{Plan}
-use Rattle.segment.specs.Segments.{isLock}
+use Rattle.segment.specs.Segments.{isLock, isErase}
 use Rattle.segment.specs.declared.Segment.{Segment}
+use Rattle.state.specs.declared.Device.{Device}
 use Rattle.state.specs.declared.DeviceState.{DeviceState}
+use Rattle.state.specs.declared.Suspended.{Suspended}
+use Rattle.state.specs.declared.Suspended.the-variants as Kept
 use Rattle.state.specs.declared.DeviceState.the-variants.{Free, Runs, LockedFor}
 use Rattle.state.specs.declared.Job.{Job}
 use Rattle.rules.specs.Admission.{admits}
 use Rattle.rules.specs.Best.{Ready, best-ready}
 use Rattle.rules.specs.Layout.{Layout, layoutOf}
-use Rattle.rules.specs.Machine.{Core, Verdict, goesOn, finished, differs, failed, due, jobFailed, jobFinished, jobDiffers, takeRunning, takeOn, takeAnswer, withDevice, withBoth, ended, ready, Choice, nobody, area, best, startJob, startChoice, startOn, start}
+use Rattle.rules.specs.Machine.{Core, Verdict, goesOn, finished, differs, failed, due, jobFailed, jobFinished, jobDiffers, takeRunning, takeOn, takeAnswer, withBoth, ended, ready, Choice, nobody, area, best, startJob, startChoice, displaces, eraseOr, eraseOrChoice, startOver, startOn, start}
 use Rattle.rules.specs.Reachable.{Reachable}
 use Rattle.rules.specs.Requests.{running-on}
 use Rattle.rules.specs.Round.{Half, answerOf, verdictOn, addDone, doneOn, takeIn, takeAll}
@@ -59,13 +62,13 @@ take-other P p d a b q s c done failed t f k = rw upd-other k
 module _ (p : Plan) (d : ℕ) (x : DeviceAnswer) (h : Half) (a : ℕ) where
   -- area a's request runs on device d, which takes its answer, or the area stays as it is
   pub take-case : (P : Job → List Segment → Type 0) →
-      ((q : ℕ) → h .core .devices d ≡ Runs a q →
+      ((q : ℕ) → h .core .devices d .state ≡ Runs a q →
       let v = verdictOn p (Runs a q) x (h .core .jobs) (h .memory) in
       P (jobTaken (layoutOf p) a v (ltb (q + 1) (layoutOf p .limit d)) (h .core .jobs a))
       (doneTaken v (due (layoutOf p) a (h .core .jobs a)) (h .done a))) →
       P (h .core .jobs a) (h .done a) → P (takeIn p d x h .core .jobs a) (takeIn p d x h .done a)
   unfolding takeIn takeAnswer
-  take-case P runs rests = go (h .core .devices d) refl
+  take-case P runs rests = go (h .core .devices d .state) refl
     where
       s : ℕ → Segment
       s b = due (layoutOf p) b (h .core .jobs b)
@@ -81,11 +84,11 @@ module _ (p : Plan) (d : ℕ) (x : DeviceAnswer) (h : Half) (a : ℕ) where
           let v = verdictOn p y x (h .core .jobs) (h .memory) in
           P (takeOn (layoutOf p) d v y (h .core) .jobs a) (doneOn p y v (h .core .jobs) (h .done) a)
 
-      go : (y : DeviceState) → h .core .devices d ≡ y → After y
+      go : (y : DeviceState) → h .core .devices d .state ≡ y → After y
       go Free e = rests
       go (LockedFor b) e = rests
       go (Runs b q) e =
-          same-or (λ b. h .core .devices d ≡ Runs b q → After (Runs b q)) a b
+          same-or (λ b. h .core .devices d .state ≡ Runs b q → After (Runs b q)) a b
           (λ e. take-mine P (layoutOf p) d a q (s a) (h .core) (h .done) (v a q) (t q) (runs q e))
           (λ f e. take-other P (layoutOf p) d a b q (s b) (h .core) (h .done) (v b q) (t q) (λ g. f (sym g)) rests)
           e
@@ -93,7 +96,7 @@ module _ (p : Plan) (d : ℕ) (x : DeviceAnswer) (h : Half) (a : ℕ) where
 -- a device's answer leaves the other devices
 take-leaves : (p : Layout) (d k : ℕ) (v : Verdict) (c : Core) → (d ≡ k → ⊥) → takeAnswer p d v c .devices k ≡ c .devices k
 unfolding takeAnswer
-take-leaves p d k v c f = go (c .devices d)
+take-leaves p d k v c f = go (c .devices d .state)
   where
     taken : (a q : ℕ) (v : Verdict) (t : Bool) → takeRunning p d a q v t c .devices k ≡ c .devices k
     taken a q goesOn true = upd-other _ d k _ f
@@ -110,7 +113,7 @@ take-leaves p d k v c f = go (c .devices d)
 -- from core c to e device d stays, and so does the job whose request it runs
 pub record Untouched (c e : Core) (d : ℕ) : Type 0 where
   pub device : e .devices d ≡ c .devices d
-  pub job : (a q : ℕ) → c .devices d ≡ Runs a q → e .jobs a ≡ c .jobs a
+  pub job : (a q : ℕ) → c .devices d .state ≡ Runs a q → e .jobs a ≡ c .jobs a
 
 module _ (p : Plan) (answers : List DeviceAnswer) (h : Half) (r : Reachable (layoutOf p) (admits p) (h .core)) where
   -- so does every device that is not among those that have taken their answers
@@ -124,32 +127,52 @@ module _ (p : Plan) (answers : List DeviceAnswer) (h : Half) (r : Reachable (lay
         job = λ a q e.
             take-case p n (answerOf answers n) (takeAll p answers n h) a (λ j _. j ≡ h .core .jobs a)
             (λ _ f.
-            let other = running-on r (sym (untouched n n (omega arith) .device) ∙ f) .needed in
+            let other = running-on r (sym (ap (λ x. x .state) (untouched n n (omega arith) .device)) ∙ f) .needed in
             absurd (omega (arith, running-on r e .needed)))
             (before .job a q e);
       }
 
-module _ (P : Core → Type 0) (p : Layout) (d : ℕ) (c : Core) where
-  -- device d starts nothing, is locked for an area that is ready, or starts a request
-  pub start-case : P c →
-      ((a : ℕ) → c .devices d ≡ Free → ready p c d a ≡ true → isLock (c .jobs a .task .kind) ≡ true →
-      P (withBoth a (ended 0 (c .jobs a)) d (LockedFor a) c)) →
-      ((a : ℕ) → c .devices d ≡ Free → P (withDevice d (Runs a 0) c)) → P (start p d c)
-  unfolding start
-  start-case stays locks runs = go (c .devices d) refl
-    where
-      given : (a : ℕ) → c .devices d ≡ Free → ready p c d a ≡ true → (t : Bool) → isLock (c .jobs a .task .kind) ≡ t → P (startJob d a t c)
-      given a e r true k = locks a e r k
-      given a e r false k = runs a e
+-- free or running
+abbrev pub Unlocked : DeviceState → Type 0
+Unlocked Free = Unit {0}
+Unlocked (Runs a q) = Unit {0}
+Unlocked (LockedFor a) = ⊥
 
-      picked : (x : Choice) → c .devices d ≡ Free → Ready p c d x → P (startChoice d x c)
+module _ (P : Core → Type 0) (p : Layout) (d : ℕ) (c : Core) where
+  -- device d starts nothing, is locked for an area that is ready, or comes to run a request, with or without one suspended
+  pub start-case : P c →
+      ((a : ℕ) → c .devices d .state ≡ Free → ready p c d a ≡ true → isLock (c .jobs a .task .kind) ≡ true →
+      P (withBoth a (ended 0 (c .jobs a)) d (LockedFor a) c)) →
+      ((y : Device) → Unlocked (c .devices d .state) → P (record { jobs = c .jobs; devices = upd (c .devices) d y })) → P (start p d c)
+  unfolding start
+  start-case stays locks moves = go (c .devices d .state) (c .devices d .suspended) refl
+    where
+      given : (a : ℕ) → c .devices d .state ≡ Free → ready p c d a ≡ true → (t : Bool) → isLock (c .jobs a .task .kind) ≡ t → P (startJob d a t c)
+      given a e r true k = locks a e r k
+      given a e r false k = moves _ (rw e tt)
+
+      picked : (x : Choice) → c .devices d .state ≡ Free → Ready p c d x → P (startChoice d x c)
       picked nobody e r = stays
       picked (area a) e r = given a e r _ refl
 
-      go : (x : DeviceState) → c .devices d ≡ x → P (startOn p d x c)
-      go Free e = picked (best p c d (p .areas)) e (best-ready p c d (p .areas))
-      go (LockedFor a) e = stays
-      go (Runs a q) e = stays
+      erase : (b q : ℕ) → Unlocked (c .devices d .state) → (x : Choice) → P (eraseOrChoice d b q x c)
+      erase b q u nobody = moves _ u
+      erase b q u (area a) = test (displaces (c .jobs a .task .kind))
+        where
+          test : (t : Bool) → P (eraseOr d b q a t c)
+          test true = moves _ u
+          test false = moves _ u
+
+      over : (b q : ℕ) → Unlocked (c .devices d .state) → (t : Bool) → P (startOver p d b q t c)
+      over b q u true = erase b q u (best p c d (p .areas))
+      over b q u false = stays
+
+      go : (x : DeviceState) (s : Suspended) → c .devices d .state ≡ x → P (startOn p d x s c)
+      go Free Kept.Nothing e = picked (best p c d (p .areas)) e (best-ready p c d (p .areas))
+      go Free (Kept.Erase b q) e = erase b q (rw e tt) (best p c d (p .areas))
+      go (LockedFor a) s e = stays
+      go (Runs b q) Kept.Nothing e = over b q (rw e tt) (p .suspends d && isErase (c .jobs b .task .kind))
+      go (Runs b q) (Kept.Erase a k) e = stays
 
 -- a call is accepted, or refused
 pub accept-case : {A : Type 0} (P : A → Type 0) (n : ℕ) {x y : A} → (n ≡ 0 → P x) → P y → P (pick (eqb n 0) x y)

@@ -27,28 +27,28 @@ use Rattle.rules.specs.Round.{answerOf, Half, takeIn, takeAll}
 -- core e is core c but for device d and the job of the area that it runs
 record Others (d : ℕ) (c e : Core) : Type 0 where
   devices : (k : ℕ) → (d ≡ k → ⊥) → e .devices k ≡ c .devices k
-  jobs : (b : ℕ) → ((q : ℕ) → c .devices d ≡ Runs b q → ⊥) → e .jobs b ≡ c .jobs b
+  jobs : (b : ℕ) → ((q : ℕ) → c .devices d .state ≡ Runs b q → ⊥) → e .jobs b ≡ c .jobs b
 
 -- a device that takes its answer leaves the others so
 take-others : (p : Layout) (d : ℕ) (v : Verdict) (c : Core) → Others d c (takeAnswer p d v c)
 unfolding takeAnswer
-take-others p d v c = on (c .devices d) refl
+take-others p d v c = on (c .devices d .state) refl
   where
-    both : (a q : ℕ) (j : Job) → c .devices d ≡ Runs a q → Others d c (withBoth a j d Free c)
+    both : (a q : ℕ) (j : Job) → c .devices d .state ≡ Runs a q → Others d c (withBoth a j d Free c)
     both a q j e =
         record {
-          devices = λ k f. upd-other (c .devices) d k Free f;
+          devices = λ k f. upd-other (c .devices) d k _ f;
           jobs = λ b f. upd-other (c .jobs) a b j (λ i. f q (e ∙ ap (λ n. Runs n q) i));
         }
 
-    running : (a q : ℕ) (v : Verdict) (t : Bool) → c .devices d ≡ Runs a q → Others d c (takeRunning p d a q v t c)
+    running : (a q : ℕ) (v : Verdict) (t : Bool) → c .devices d .state ≡ Runs a q → Others d c (takeRunning p d a q v t c)
     running a q goesOn true e = record { devices = λ k f. upd-other (c .devices) d k _ f; jobs = λ b f. refl }
     running a q goesOn false e = both a q _ e
     running a q finished t e = both a q _ e
     running a q differs t e = both a q _ e
     running a q failed t e = both a q _ e
 
-    on : (s : DeviceState) → c .devices d ≡ s → Others d c (takeOn p d v s c)
+    on : (s : DeviceState) → c .devices d .state ≡ s → Others d c (takeOn p d v s c)
     on Free e = record { devices = λ k f. refl; jobs = λ b f. refl }
     on (LockedFor a) e = record { devices = λ k f. refl; jobs = λ b f. refl }
     on (Runs a q) e = running a q v _ e
@@ -56,13 +56,13 @@ take-others p d v c = on (c .devices d) refl
 -- the devices from n on, and the jobs of the areas that they run, are in core e as in core c
 record Rest (n : ℕ) (c e : Core) : Type 0 where
   devices : (d : ℕ) → n ≤ d → e .devices d ≡ c .devices d
-  jobs : (d a q : ℕ) → n ≤ d → c .devices d ≡ Runs a q → e .jobs a ≡ c .jobs a
+  jobs : (d a q : ℕ) → n ≤ d → c .devices d .state ≡ Runs a q → e .jobs a ≡ c .jobs a
 
 -- so is the request of device n
 same-request : (p : Plan) (n : ℕ) (c e : Core) → Rest n c e → requestAt p e n ≡ requestAt p c n
-same-request p n c e r = ap (λ s. requestOn p s (e .jobs)) (r .devices n (le-refl n)) ∙ go (c .devices n) refl
+same-request p n c e r = ap (λ s. requestOn p (s .state) (e .jobs)) (r .devices n (le-refl n)) ∙ go (c .devices n .state) refl
   where
-    go : (s : DeviceState) → c .devices n ≡ s → requestOn p s (e .jobs) ≡ requestOn p s (c .jobs)
+    go : (s : DeviceState) → c .devices n .state ≡ s → requestOn p s (e .jobs) ≡ requestOn p s (c .jobs)
     go Free u = refl
     go (LockedFor a) u = refl
     go (Runs a q) u = ap (requestFor p a) (r .jobs n a q (le-refl n) u)
@@ -73,7 +73,7 @@ rest-more {n = n} reach r o =
     record {
       devices = λ d h. o .devices d (λ i. omega arith) ∙ r .devices d (omega arith);
       jobs = λ d a q h u.
-          o .jobs a (λ s g. omega (arith, one-device reach (sym (r .devices n (le-refl n)) ∙ g) u))
+          o .jobs a (λ s g. omega (arith, one-device reach (sym (ap (λ x. x .state) (r .devices n (le-refl n))) ∙ g) u))
           ∙ r .jobs d a q (omega arith) u;
     }
 
@@ -94,7 +94,7 @@ module _ (p : Plan) (w : WellFormed p) (c : Core) (reach : Reachable (layoutOf p
         rest = rest-more reach (t .rest) (take-others (layoutOf p) n _ (h .core));
         after =
             subst (After (requestAt p c) (answerOf answers) m (suc n))
-            (sym (memory-on p (h .core .devices n) x (h .core .jobs) (h .memory) ∙ own))
+            (sym (memory-on p (h .core .devices n .state) x (h .core .jobs) (h .memory) ∙ own))
             (after-more _ _ m (request-fits p w c reach cuts m accepted) (requests-apart p w c reach cuts) n (h .memory) (t .after));
       }
 

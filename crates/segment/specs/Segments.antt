@@ -26,6 +26,15 @@ isLock Compare = false
 isLock Erase = false
 isLock BlankCheck = false
 
+abbrev pub isErase : JobType → Bool
+isErase Erase = true
+isErase NoJob = false
+isErase Write = false
+isErase Read = false
+isErase Compare = false
+isErase BlankCheck = false
+isErase Lock = false
+
 -- "The unit of an operation is sector, page or smallest read." A lock request needs no unit: every byte will do.
 abbrev pub unitOf : JobType → SubAreaRecord → ℕ
 unitOf Erase s = s .erase .unit
@@ -106,14 +115,19 @@ unfoldable pub ownSum : (ℕ → ℕ) → List Segment → ℕ
 ownSum limit [] = 0
 ownSum limit (s ∷ l) = limit (s .device) * (s .retries + 1) + ownSum limit l
 
--- "Below is at most patience less one, summed over its stretches on one chip."
+-- "Below is at most patience less one"; document 02, 02: on chips that can pause, twice that. Of a span on a device with this limit
+abbrev pub spanMost : Bool → ℕ → ℕ
+spanMost true limit = 2 * (limit - 1)
+spanMost false limit = limit - 1
+
+-- "summed over its stretches on one chip": most is that of a span on a device
 unfoldable pub belowSum : (ℕ → ℕ) → List ℕ → ℕ
-belowSum limit [] = 0
-belowSum limit (d ∷ l) = (limit d - 1) + belowSum limit l
+belowSum most [] = 0
+belowSum most (d ∷ l) = most d + belowSum most l
 
 -- "a lock request has one stretch and no piece"
 unfoldable pub ownBound : (ℕ → ℕ) → (ℕ → Segment) → Task → ℕ
 ownBound limit next t = pick (isLock (t .kind)) 0 (ownSum limit (segmentsFrom next t 0))
 
 unfoldable pub belowBound : (ℕ → ℕ) → (ℕ → Segment) → Task → ℕ
-belowBound limit next t = belowSum limit (pick (isLock (t .kind)) (next 0 .device ∷ []) (spans (segmentsFrom next t 0)))
+belowBound most next t = belowSum most (pick (isLock (t .kind)) (next 0 .device ∷ []) (spans (segmentsFrom next t 0)))

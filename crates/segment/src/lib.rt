@@ -5,7 +5,7 @@ ghost use lib.ListN.{length};
 ghost use Rattle.plan.specs.Questions.{sizeOf};
 ghost use Rattle.segment.specs.Mapping.{find, located, mapped};
 ghost use Rattle.segment.specs.Lookup.{met, outcomeOf};
-ghost use Rattle.segment.specs.Segments.{isLock, unitOf, retriesOf, burstOrUnit, segmentLength, segmentIn, noSegment, segmentAt};
+ghost use Rattle.segment.specs.Segments.{isLock, isErase, unitOf, retriesOf, burstOrUnit, segmentLength, segmentIn, noSegment, segmentAt};
 ghost use Rattle.segment.specs.Found.{indexOf, Inside, segmentIf, segmentFrom};
 use memory::JobType;
 use memory::LogicalAddress;
@@ -151,6 +151,20 @@ pub fn is_lock(kind: JobType) -> bool
         JobType::Compare => false,
         JobType::Erase => false,
         JobType::BlankCheck => false,
+    }
+}
+
+pub fn is_erase(kind: JobType) -> bool
+    ensures { λ r. ⌜ r ≡ isErase kind ⌝ }
+{
+    match kind {
+        JobType::Erase => true,
+        JobType::NoJob => false,
+        JobType::Write => false,
+        JobType::Read => false,
+        JobType::Compare => false,
+        JobType::BlankCheck => false,
+        JobType::Lock => false,
     }
 }
 

@@ -1,31 +1,67 @@
 // What a round shows of its devices (document 01, "A printed session").
-ghost use Prim.Native.Nat.{_+_, _≤_, _<_};
+ghost use mathlib.Core.Path.{_≡_};
+ghost use Prim.Native.Nat.{_+_, _≤_};
 ghost use lib.ListN.{length};
-ghost use Rattle.machine.specs.Sound.{jobIn, stateIn, coreIn};
+ghost use Rattle.machine.specs.Sound.{jobIn, coreIn};
+ghost use Rattle.plan.specs.Questions.{areaOf};
 ghost use Rattle.rules.specs.Session.{shownOn, shownTo};
 ghost use Rattle.texts.specs.Appended.{Appended};
-ghost use Rattle.shown.specs.Known.{RunsBelow, AllBelow};
 ghost use Rattle.shown.specs.Shown.{shownText, shownTexts, devicesLine};
+use memory::LogicalAddress;
+use plan::records::AreaRecord;
 use plan::records::Plan;
-use segment::segment_at;
+use segment::segment_from;
 use state::Area;
 use state::Device;
 use state::DeviceState;
+use state::Job;
 use texts::free_text;
 use texts::locked_text;
 use texts::push;
 use texts::request_text;
 
+// The job of any area: one that a manager has not got has none.
+fn job_of(areas: [Area; 8], area: usize) -> Job
+    ensures { λ r. ⌜ r ≡ jobIn areas area ⌝ }
+{
+    if 8 <= area {
+        let fresh = Area::fresh();
+        return fresh.job;
+    }
+    let entry = areas[area];
+    entry.job
+}
+
+// Where any area starts: one that the plan has not got at 0.
+fn start_of(places: [AreaRecord; 8], area: usize) -> LogicalAddress
+    ensures { λ r. ⌜ r ≡ areaOf places area .start ⌝ }
+{
+    if 8 <= area {
+        return LogicalAddress(0);
+    }
+    let place = places[area];
+    place.start
+}
+
 // The request of an area that runs: its due segment.
 fn area_request(out: &mut [u8], at: usize, plan: Plan, areas: [Area; 8], area: u8) -> usize
-    requires { ⌜ (at + 84 ≤ length (now out)) × (plan .«sub_area_count» ≤ 32) × (area < 8) ⌝ }
+    requires { ⌜ (at + 84 ≤ length (now out)) × (plan .«sub_area_count» ≤ 32) ⌝ }
     ensures { λ r. ⌜ (Appended (now (out .entry)) (now (out .exit)) at r (shownText (shownOn plan (jobIn areas) (DeviceState.Runs area 0)))) × (r ≤ at + 84) ⌝ }
 {
-    let entry = areas[area as usize];
-    let job = entry.job;
+    let job = job_of(areas, area as usize);
     let task = job.task;
     let kind = task.kind;
-    let segment = segment_at(plan, area as usize, task, job.processed);
+    let places = plan.areas;
+    let sub_areas = plan.sub_areas;
+    let start = start_of(places, area as usize);
+    let segment = segment_from(
+        sub_areas,
+        plan.sub_area_count,
+        start,
+        area as usize,
+        task,
+        job.processed,
+    );
     let number = kind.number();
     request_text(
         out,
@@ -38,7 +74,7 @@ fn area_request(out: &mut [u8], at: usize, plan: Plan, areas: [Area; 8], area: u
 }
 
 fn device_text(out: &mut [u8], at: usize, plan: Plan, areas: [Area; 8], state: DeviceState) -> usize
-    requires { ⌜ (at + 84 ≤ length (now out)) × (plan .«sub_area_count» ≤ 32) × (RunsBelow 8 state) ⌝ }
+    requires { ⌜ (at + 84 ≤ length (now out)) × (plan .«sub_area_count» ≤ 32) ⌝ }
     ensures { λ r. ⌜ (Appended (now (out .entry)) (now (out .exit)) at r (shownText (shownOn plan (jobIn areas) state))) × (r ≤ at + 84) ⌝ }
 {
     match state {
@@ -55,7 +91,7 @@ fn device_texts(
     areas: [Area; 8],
     devices: [Device; 4],
 ) -> usize
-    requires { ⌜ (at + 336 ≤ length (now out)) × (plan .«sub_area_count» ≤ 32) × (plan .«device_count» ≤ 4) × (AllBelow 8 (plan .«device_count») (stateIn devices)) ⌝ }
+    requires { ⌜ (at + 336 ≤ length (now out)) × (plan .«sub_area_count» ≤ 32) × (plan .«device_count» ≤ 4) ⌝ }
     ensures { λ r. ⌜ (Appended (now (out .entry)) (now (out .exit)) at r (shownTexts (shownTo plan (coreIn areas devices) (plan .«device_count»)))) × (r ≤ at + 336) ⌝ }
 {
     let count = plan.device_count;
@@ -78,7 +114,7 @@ pub fn devices_line(
     areas: [Area; 8],
     devices: [Device; 4],
 ) -> usize
-    requires { ⌜ (at + 338 ≤ length (now out)) × (plan .«sub_area_count» ≤ 32) × (plan .«device_count» ≤ 4) × (AllBelow 8 (plan .«device_count») (stateIn devices)) ⌝ }
+    requires { ⌜ (at + 338 ≤ length (now out)) × (plan .«sub_area_count» ≤ 32) × (plan .«device_count» ≤ 4) ⌝ }
     ensures { λ r. ⌜ (Appended (now (out .entry)) (now (out .exit)) at r (devicesLine plan (coreIn areas devices))) × (r ≤ at + 338) ⌝ }
 {
     let first = push(out, at, b'R');

@@ -6,6 +6,7 @@ use Rattle.state.specs.declared.Waits.{Waits}
 use Rattle.state.specs.declared.Area.{Area}
 use Rattle.state.specs.declared.Device.{Device}
 use Rattle.state.specs.declared.DeviceState.the-variants.{Free}
+use Rattle.state.specs.declared.Suspended.the-variants.{Nothing}
 
 abbrev pub noJob : Job
 noJob =
@@ -23,6 +24,6 @@ noWaits = record { own = 0; above = 0; below = 0; locked = 0 }
 abbrev pub freshArea : Area
 freshArea = record { job = noJob; waits = noWaits }
 
--- nothing runs there, and it is not locked
+-- nothing runs there or is suspended, and it is not locked
 abbrev pub freeDevice : Device
-freeDevice = record { state = Free }
+freeDevice = record { state = Free; suspended = Nothing }

@@ -39,8 +39,15 @@ pub enum DeviceState {
     LockedFor(u8),
 }
 
+// An erase that has given way, with its polls; its area's due segment is the one that it erases.
+pub enum Suspended {
+    Nothing,
+    Erase { area: u8, polls: u16 },
+}
+
 pub struct Device {
     pub state: DeviceState,
+    pub suspended: Suspended,
 }
 
 // The running request of a job; all zeros where none runs. The hardware id is the device number.
@@ -113,6 +120,7 @@ impl Device {
     {
         Device {
             state: DeviceState::Free,
+            suspended: Suspended::Nothing,
         }
     }
 }

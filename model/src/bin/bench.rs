@@ -139,6 +139,11 @@ const STORE_LENGTH: usize = 65_536;
 fn rounds() {
     let plan = enduring(4, 8, 32);
     report("round, 4 writes pending", round(&plan, Operation::Write, Answer::Pending));
+    report("round, 4 erases pending", round(&plan, Operation::Erase, Answer::Pending));
+    let mut suspending = plan.clone();
+    suspending.devices.iter_mut().for_each(|device| device.can_suspend = true);
+    let erases = round(&suspending, Operation::Erase, Answer::Pending);
+    report("round, 4 erases pending, chips can suspend", erases);
     for operation in Operation::ALL {
         let name = format!("round, 4 requests of {operation:?} done");
         report(&name, round(&plan, operation, Answer::Done));

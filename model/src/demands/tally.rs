@@ -1,5 +1,6 @@
 //! What came up in trials: shows, and lets tests assert, that no rule went untried.
 
+use super::suspensions::Suspensions;
 use crate::calls::Call;
 use crate::histogram::Histogram;
 use crate::jobs::JobResult;
@@ -28,6 +29,7 @@ pub struct Tally {
     /// Jobs and locks accepted for each area.
     pub acceptances: [u64; MOST_AREAS],
     pub equals: Equals,
+    pub suspensions: Suspensions,
 }
 
 /// How often the order of acceptance decided between areas of equal priority.
@@ -74,7 +76,8 @@ impl Tally {
     }
 
     /// What an accepted round did between areas of equal priority. A job that needs a device and
-    /// does not have it was passed over by whatever began there in this round.
+    /// does not have it was passed over by whatever began there in this round; an erase that has
+    /// resumed has polls and did not begin.
     pub fn add_equals(&mut self, plan: &Plan, before: &WaitBook, after: &WaitBook) {
         for device in 0..plan.devices.len() {
             let (area, has_begun) = match (before.station(device), after.station(device)) {
@@ -148,10 +151,12 @@ impl fmt::Display for Tally {
         writeln!(f, "waits: own {own}, above {above}, below {below}, locked {locked}")?;
         writeln!(f, "pieces done: {}, retries: {}", self.done_pieces, self.retries)?;
         let (own, below) = (self.own_bounds_reached, self.below_bounds_reached);
-        write!(f, "jobs at the bound on own: {own}, on below: {below}\nbetween equals:")?;
-        for (name, count) in self.equals.counts() {
-            write!(f, " {name}: {count}")?;
-        }
-        Ok(())
+        writeln!(f, "jobs at the bound on own: {own}, on below: {below}")?;
+        writeln!(f, "between equals:{}", listed(&self.equals.counts()))?;
+        write!(f, "erases:{}", listed(&self.suspensions.counts()))
     }
+}
+
+fn listed(counts: &[(&str, u64)]) -> String {
+    counts.iter().map(|(name, count)| format!(" {name}: {count}")).collect()
 }

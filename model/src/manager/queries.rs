@@ -19,7 +19,8 @@ pub struct JobInfo {
     pub request: RequestInfo,
 }
 
-/// "Request fields are 0 unless the area's request runs; the hardware id is the device number."
+/// "Request fields are 0 unless the area's request runs; the hardware id is the device number." "The
+/// wait counts, in the wait book too, and job info take a parked erase as not running".
 #[derive(Clone, Copy, Debug, Default, PartialEq, Eq)]
 pub struct RequestInfo {
     pub device: u32,

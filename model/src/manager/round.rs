@@ -1,5 +1,6 @@
 //! "A round": first every device with a running request takes its answer, then every unlocked device
-//! with nothing running starts something, then the waiting jobs count.
+//! with nothing running starts something, or an erase gives way or resumes, then the waiting jobs
+//! count.
 
 use super::{DeviceState, Manager, Need, Request, Wait};
 use crate::admission;
@@ -20,22 +21,27 @@ impl Manager {
         if let Err(number) = admission::round(&self.plan, image.len(), store.len()) {
             return number;
         }
+        self.take_answers(answers, image, store);
+        self.second_half();
+        0
+    }
+
+    /// The first half. Open, as the second is, for tests that step in between.
+    pub fn take_answers(&mut self, answers: [Answer; 4], image: &mut [u8], store: &mut [u8]) {
         for (device, answer) in (0..self.devices.len()).zip(answers) {
             self.take_answer(device, answer, image, store);
         }
-        // Not before all answers are in: any of them may bring a job to a device. What starts changes no job's need, so
-        // the needs are worked out once.
+    }
+
+    /// The second half and the close. Not before all answers are in: any of them may bring a job to a
+    /// device. What starts changes no job's need, so the needs are worked out once.
+    pub fn second_half(&mut self) {
         let needed: [Option<usize>; MOST_AREAS] =
             std::array::from_fn(|area| self.needed_device(area));
         for device in 0..self.devices.len() {
             self.start(device, &needed);
         }
-        for (area, device) in needed.iter().enumerate() {
-            if let Some(device) = device {
-                self.count_wait(area, *device);
-            }
-        }
-        0
+        self.count_waits(&needed);
     }
 
     /// "The answer for a device with nothing running is ignored."
@@ -119,18 +125,78 @@ impl Manager {
     }
 
     /// "every unlocked device with nothing running picks the highest ranked area whose next piece
-    /// lies on it, or whose lock request names it"
+    /// lies on it, or whose lock request names it"; with an erase running or suspended there, that
+    /// area takes the device only from the erase.
     fn start(&mut self, device: usize, needed: &[Option<usize>]) {
-        if self.devices[device] != DeviceState::Free {
-            return;
+        match (self.devices[device], self.suspended[device]) {
+            (DeviceState::Locked(_), _) => {}
+            (DeviceState::Running(request), None) => self.give_way(device, request, needed),
+            // "One erase is parked per chip": what runs over it does not give way.
+            (DeviceState::Running(_), Some(_)) => {}
+            (DeviceState::Free, Some(erase)) => self.go_on_or_resume(device, erase, needed),
+            (DeviceState::Free, None) => self.take(device, self.highest_ready(device, needed)),
         }
-        let mut chosen: Option<usize> = None;
+    }
+
+    /// "the highest ranked ready job there (next piece or lock request on it, none of its own running
+    /// or parked)"
+    fn highest_ready(&self, device: usize, needed: &[Option<usize>]) -> Option<usize> {
+        let mut highest: Option<usize> = None;
         for (area, need) in needed.iter().enumerate() {
-            let is_candidate = *need == Some(device);
-            if is_candidate && chosen.is_none_or(|other| self.ranks_above(area, other)) {
-                chosen = Some(area);
+            let is_ready = *need == Some(device) && !self.has_request_on(device, area);
+            if is_ready && highest.is_none_or(|other| self.ranks_above(area, other)) {
+                highest = Some(area);
             }
         }
+        highest
+    }
+
+    fn has_request_on(&self, device: usize, area: usize) -> bool {
+        let runs = matches!(self.devices[device], DeviceState::Running(r) if r.area == area);
+        runs || self.suspended[device].is_some_and(|erase| erase.area == area)
+    }
+
+    /// "When, in a round's second half, the highest ranked ready job there (...) outranks the running
+    /// erase's area and its next piece is no erase, the erase is parked with its polls kept and that
+    /// piece starts." On other chips, and of other operations, nothing is suspended.
+    fn give_way(&mut self, device: usize, request: Request, needed: &[Option<usize>]) {
+        let can_suspend = self.plan.devices[device].can_suspend;
+        if !can_suspend || request.operation != Operation::Erase {
+            return;
+        }
+        let ready = self.highest_ready(device, needed);
+        if self.qualifies(ready, &request) {
+            self.suspended[device] = Some(request);
+            self.take(device, ready);
+        }
+    }
+
+    /// "After each piece the parked erase resumes, unless the highest ranked ready job again
+    /// qualifies."
+    fn go_on_or_resume(&mut self, device: usize, erase: Request, needed: &[Option<usize>]) {
+        let ready = self.highest_ready(device, needed);
+        if self.qualifies(ready, &erase) {
+            self.take(device, ready);
+        } else {
+            self.devices[device] = DeviceState::Running(erase);
+            self.suspended[device] = None;
+        }
+    }
+
+    /// Does the highest ranked ready job outrank the erase's area, and is its next piece no erase? "A
+    /// lock request has no piece and parks nothing."
+    fn qualifies(&self, ready: Option<usize>, erase: &Request) -> bool {
+        ready.is_some_and(|area| match self.need(area) {
+            Some(Need::Piece(operation, _)) => {
+                self.ranks_above(area, erase.area) && operation != Operation::Erase
+            }
+            Some(Need::Lock(_)) | None => false,
+        })
+    }
+
+    /// "A piece becomes the running request with 0 polls. A lock request locks the device for that
+    /// area and ends with 0."
+    fn take(&mut self, device: usize, chosen: Option<usize>) {
         let Some(area) = chosen else {
             return;
         };
@@ -167,8 +233,18 @@ impl Manager {
         priority > other_priority || (priority == other_priority && is_earlier)
     }
 
+    fn count_waits(&mut self, needed: &[Option<usize>]) {
+        for (area, device) in needed.iter().enumerate() {
+            if let Some(device) = device {
+                self.count_wait(area, *device);
+            }
+        }
+    }
+
     /// "When the round closes, each job pending since before it adds 1 to one count." Calls and
-    /// rounds do not overlap, so every pending job is pending since before.
+    /// rounds do not overlap, so every pending job is pending since before. "The wait counts, in the
+    /// wait book too, and job info take a parked erase as not running": its area waits for what runs
+    /// over it.
     fn count_wait(&mut self, area: usize, device: usize) {
         // A lock request may have ended.
         if !self.areas[area].is_pending {

@@ -27,7 +27,12 @@ pub fn enduring(devices: u32, areas: u32, sub_areas: u32) -> Plan {
         window_start: number * window_length,
         window_length,
     };
-    let device = |number| Device { start: number * room, length: room, patience: u16::MAX };
+    let device = |number| Device {
+        start: number * room,
+        length: room,
+        patience: u16::MAX,
+        can_suspend: false,
+    };
     Plan {
         devices: (0..devices).map(device).collect(),
         areas: (0..areas).map(area).collect(),

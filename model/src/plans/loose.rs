@@ -5,7 +5,7 @@
 //! Numbers are small, so that records meet: windows and sub-areas share bytes, touch or miss by
 //! one.
 
-use super::low_byte;
+use super::{draw_marks, low_byte};
 use crate::plan::{Area, Device, Plan, SubArea, LOGICAL_LIMIT, WINDOW_LIMIT};
 use crate::random::Random;
 
@@ -26,6 +26,7 @@ pub fn loose(random: &mut Random) -> Plan {
         let sub_area = sub_area(random, loose_from, &plan.devices, number);
         plan.sub_areas.push(sub_area);
     }
+    draw_marks(random, &mut plan);
     plan
 }
 
@@ -42,12 +43,13 @@ fn count(random: &mut Random, loose_from: u8, most: u32) -> u32 {
 fn device(random: &mut Random, loose_from: u8, end: u32) -> Device {
     let length = random.between(1, 8) * CELL;
     if loose_from > 3 {
-        return Device { start: end, length, patience: 1 };
+        return Device { start: end, length, patience: 1, can_suspend: false };
     }
     Device {
         start: random.pick(&[end, end, end, end + 1, end.saturating_sub(1), 0]),
         length: random.pick(&[length, length, length, 0, 1 << 24]),
         patience: random.pick(&[1, 1, 1, 0]),
+        can_suspend: false,
     }
 }
 

@@ -1,16 +1,35 @@
 //! Small plans for lists of calls: short pieces, little patience and few retries, so that within a
 //! few rounds jobs end, requests are dropped and tried again, and areas stand in each other's way.
 
-use super::low_byte;
 use super::valid::{divisor, spread_over_areas};
+use super::{draw_marks, low_byte};
 use crate::plan::{Area, Device, Plan, SubArea, LOGICAL_LIMIT};
 use crate::random::Random;
 
 pub fn small(random: &mut Random) -> Plan {
+    if random.one_in(3) {
+        return suspending(random);
+    }
     let device_count = random.pick(&[1, 1, 1, 2, 2, 3, 4]);
     let area_count = random.pick(&[1, 2, 2, 3, 3, 4, 8]);
     let sub_area_count = area_count + random.below(5);
     of_counts(random, device_count, area_count, sub_area_count)
+}
+
+/// Areas of several ranks, two of them equal, on few devices that can suspend and are patient enough
+/// for it.
+fn suspending(random: &mut Random) -> Plan {
+    let device_count = random.pick(&[1, 1, 2]);
+    let sub_area_count = random.between(4, 7);
+    let mut plan = of_counts(random, device_count, 4, sub_area_count);
+    let mut priorities = [0, 1, 1, 65_535];
+    random.shuffle(&mut priorities);
+    let areas = plan.areas.iter_mut().zip(priorities);
+    areas.for_each(|(area, priority)| area.priority = priority);
+    for device in &mut plan.devices {
+        (device.can_suspend, device.patience) = (true, device.patience.max(2));
+    }
+    plan
 }
 
 /// Areas of several sub-areas on few devices, so that jobs go from one to the other and meet.
@@ -31,6 +50,7 @@ fn of_counts(random: &mut Random, device_count: u32, area_count: u32, sub_area_c
     random.shuffle(&mut plan.sub_areas);
     spread_over_areas(random, area_count, &mut plan.sub_areas);
     plan.areas = areas(random, area_count, &plan);
+    draw_marks(random, &mut plan);
     plan
 }
 
@@ -47,8 +67,9 @@ fn image_layout(random: &mut Random, device_count: u32, sub_area_count: u32) -> 
             plan.sub_areas.push(sub_area);
         }
         end += if end == start { 1 } else { random.below(3) };
-        let patience = random.pick(&[1, 2, 2, 3, 4]);
-        plan.devices.push(Device { start, length: end - start, patience });
+        // Enough polls at times for an erase that is suspended more than once.
+        let patience = random.pick(&[1, 2, 2, 3, 4, 6]);
+        plan.devices.push(Device { start, length: end - start, patience, can_suspend: false });
     }
     plan
 }

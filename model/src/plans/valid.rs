@@ -1,7 +1,7 @@
 //! Random plans that every question accepts. The draws favour the limits: they are where a wrong
 //! comparison shows.
 
-use super::{low_byte, low_two_bytes};
+use super::{draw_marks, low_byte, low_two_bytes};
 use crate::plan::{Area, Device, Plan, SubArea};
 use crate::plan::{DEVICE_SUM_LIMIT, LOGICAL_LIMIT, WINDOW_LIMIT};
 use crate::random::Random;
@@ -20,6 +20,7 @@ pub fn valid(random: &mut Random) -> Plan {
     }
     spread_over_areas(random, area_count, &mut plan.sub_areas);
     plan.areas = areas(random, area_count, &plan);
+    draw_marks(random, &mut plan);
     plan
 }
 
@@ -53,7 +54,7 @@ fn image_layout(random: &mut Random, device_count: u32, sub_area_count: u32) -> 
         let is_empty = end == start;
         end += if is_empty || random.one_in(2) { random.between(1, room) } else { 0 };
         let patience = patience(random);
-        plan.devices.push(Device { start, length: end - start, patience });
+        plan.devices.push(Device { start, length: end - start, patience, can_suspend: false });
     }
     plan
 }

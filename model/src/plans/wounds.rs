@@ -1,7 +1,7 @@
 //! Wounds: changes to a plan that may or may not make a question answer "no".
 
 use super::{encode, encode_records, raw_records, Field, RawRecord};
-use crate::plan::{Plan, AREA_MARK, DEVICE_MARK, SUB_AREA_MARK};
+use crate::plan::{Plan, AREA_MARK, DEVICE_MARK, SUB_AREA_MARK, SUSPENDING_DEVICE_MARK};
 use crate::random::Random;
 
 /// What a wound makes of a field. At the ends of a field's range "one more" and "one less" go round
@@ -82,12 +82,14 @@ fn wound_field(random: &mut Random, record: &mut RawRecord) {
     record.fields[field].change(random, change);
 }
 
-/// The mark of some kind, the mark with its bytes exchanged, or a mark with one byte changed.
+/// The mark of some kind, the mark with its bytes exchanged, a first byte with the second of another
+/// mark, known or not, or a mark with one byte changed.
 fn another_mark(random: &mut Random, [first, second]: [u8; 2]) -> [u8; 2] {
-    match random.below(4) {
-        0 => random.pick(&[DEVICE_MARK, AREA_MARK, SUB_AREA_MARK]),
+    match random.below(5) {
+        0 => random.pick(&[DEVICE_MARK, SUSPENDING_DEVICE_MARK, AREA_MARK, SUB_AREA_MARK]),
         1 => [second, first],
-        2 => [random.byte(), second],
+        2 => [first, random.pick(&[0x56, 0x53, 0x46, 0x54, 0x52, 0x4C, 0x42])],
+        3 => [random.byte(), second],
         _ => [first, random.byte()],
     }
 }

@@ -1,6 +1,7 @@
 //! Busy lists of calls: short jobs, in turn after turn one for every area in any order, so that
 //! each area has hundreds of them accepted and many wait for a device at the same time.
 
+use super::suspensions::stages;
 use crate::calls::{Call, Query};
 use crate::jobs::{Answer, Operation, Target};
 use crate::plan::{Plan, SubArea};
@@ -23,11 +24,15 @@ pub fn busy_plan(random: &mut Random) -> Plan {
 }
 
 pub fn busy_calls(random: &mut Random, plan: &Plan) -> Vec<Call> {
-    let crossings = crossings(plan);
-    let mut turn = |_| match random.below(2) {
-        0 if !crossings.is_empty() => {
+    let (crossings, stages) = (crossings(plan), stages(plan));
+    let mut turn = |_| match random.below(8) {
+        0..=3 if !crossings.is_empty() => {
             let (crossing, calls) = random.pick(&crossings).calls();
             [calls, turn(random, plan, &crossing)].concat()
+        }
+        4 if !stages.is_empty() => {
+            let stage = random.index(stages.len());
+            [stages[stage].calls(random), turn(random, plan, &[])].concat()
         }
         _ => turn(random, plan, &[]),
     };

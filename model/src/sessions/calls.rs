@@ -1,11 +1,13 @@
 //! Random calls, and lists of them with what happens to the memory in between.
 
+use super::suspensions::{stages, Stage};
 use crate::admission::furthest_window_end;
 use crate::calls::{Call, Query};
 use crate::jobs::{Answer, Operation, Target};
 use crate::plan::{Plan, SubArea};
 use crate::random::Random;
 use crate::segments::{self, Placed};
+use std::collections::VecDeque;
 
 /// A step of a list.
 #[derive(Clone, Debug, PartialEq, Eq)]
@@ -48,6 +50,9 @@ const MOOD_LENGTH: u32 = 24;
 /// is given.
 const LOCK_LENGTHS: [u32; 2] = [12, 60];
 
+/// Calls on average from one erase that gives way to the next, where the plan lets them.
+const BETWEEN_SUSPENSIONS: u32 = 6;
+
 /// Draws calls over a plan, one after the other.
 pub(super) struct Drawer<'a> {
     plan: &'a Plan,
@@ -55,6 +60,9 @@ pub(super) struct Drawer<'a> {
     /// After how many calls to release what: without them every device would soon be locked for
     /// good.
     releases: Vec<(u32, Target)>,
+    stages: Vec<Stage<'a>>,
+    /// Calls that belong together and come before any others.
+    due: VecDeque<Call>,
 }
 
 impl Mood {
@@ -77,14 +85,25 @@ impl Mood {
 
 impl<'a> Drawer<'a> {
     pub(super) fn of(random: &mut Random, plan: &'a Plan) -> Self {
-        Drawer { plan, mood: random.pick(&MOODS), releases: Vec::new() }
+        Drawer {
+            plan,
+            mood: random.pick(&MOODS),
+            releases: Vec::new(),
+            stages: stages(plan),
+            due: VecDeque::new(),
+        }
     }
 
     pub(super) fn call(&mut self, random: &mut Random) -> Call {
         if random.one_in(MOOD_LENGTH) {
             self.mood = random.pick(&MOODS);
         }
-        self.release_due().map(Call::Release).unwrap_or_else(|| self.drawn_call(random))
+        if self.due.is_empty() && !self.stages.is_empty() && random.one_in(BETWEEN_SUSPENSIONS) {
+            let stage = random.index(self.stages.len());
+            self.due.extend(self.stages[stage].calls(random));
+        }
+        let due = self.due.pop_front().or_else(|| self.release_due().map(Call::Release));
+        due.unwrap_or_else(|| self.drawn_call(random))
     }
 
     fn release_due(&mut self) -> Option<Target> {
@@ -182,22 +201,32 @@ fn target(random: &mut Random, plan: &Plan, unit: impl Fn(&SubArea) -> u32) -> T
     let placed: Vec<_> = segments::placed(plan, area).collect();
     let first = random.index(placed.len());
     let last = if random.one_in(2) { first } else { random.index(placed.len()) };
-    let (first, last) = (&placed[first.min(last)], &placed[first.max(last)]);
+    let ends = [&placed[first.min(last)], &placed[first.max(last)]];
+    let mut target = target_in(random, area, ends, unit);
+    if random.one_in(6) {
+        wound(random, plan, &mut target);
+    }
+    target
+}
+
+/// A range from the first of two sub-areas to the last, at multiples of the unit.
+pub(super) fn target_in(
+    random: &mut Random,
+    area: usize,
+    [first, last]: [&Placed; 2],
+    unit: impl Fn(&SubArea) -> u32,
+) -> Target {
     let (one, other) = (
         boundary(random, first, unit(first.sub_area)),
         boundary(random, last, unit(last.sub_area)),
     );
     let (start, end) = (one.min(other), one.max(other) + u64::from(unit(last.sub_area)));
     let narrow = |number: u64| u32::try_from(number).expect("inside an area");
-    let mut target = Target {
+    Target {
         area: u32::try_from(area).expect("at most 8 areas"),
         address: narrow(start),
         length: narrow(end - start),
-    };
-    if random.one_in(6) {
-        wound(random, plan, &mut target);
     }
-    target
 }
 
 /// An address in a sub-area at a multiple of the unit.

@@ -15,9 +15,23 @@ impl WaitBook {
         }
     }
 
-    /// "Below is at most patience less one, summed over its stretches on one chip."
+    /// "Below is at most patience less one, summed over its stretches on one chip." On chips that can
+    /// suspend "the bound on rounds below becomes twice (patience less one) per stretch, for every
+    /// job type".
     pub fn below_bound(&self, work: &Work) -> u128 {
-        stretches(work).into_iter().map(|device| self.patience(device) - 1).sum()
+        let times = |device: usize| if self.plan.devices[device].can_suspend { 2 } else { 1 };
+        self.below_sum(work, times)
+    }
+
+    /// The bound as it was before chips could suspend.
+    pub fn single_below_bound(&self, work: &Work) -> u128 {
+        self.below_sum(work, |_| 1)
+    }
+
+    /// Patience less one so many times, summed over the job's stretches.
+    fn below_sum(&self, work: &Work, times: impl Fn(usize) -> u128) -> u128 {
+        let stretches = stretches(work).into_iter();
+        stretches.map(|device| times(device) * (self.patience(device) - 1)).sum()
     }
 
     fn patience(&self, device: usize) -> u128 {

@@ -38,6 +38,36 @@ pub enum Outcome {
     },
 }
 
+/// What the second half of a round makes of a device.
+enum Turn {
+    Stays,
+    /// What the area needs next: its piece or the lock.
+    Begins(usize),
+    /// The area's running erase is suspended, and the other's piece starts.
+    GivesWay {
+        area: usize,
+        polls: u64,
+        to: usize,
+    },
+    /// The area's suspended erase runs again.
+    Resumes {
+        area: usize,
+        polls: u64,
+    },
+}
+
+impl Turn {
+    /// Does the turn change the entry of the area?
+    fn moves(&self, number: usize) -> bool {
+        match self {
+            Turn::Stays => false,
+            Turn::Begins(area) | Turn::GivesWay { area, .. } | Turn::Resumes { area, .. } => {
+                *area == number
+            }
+        }
+    }
+}
+
 impl WaitBook {
     /// The book after a round that is lent this memory, and the number that the questions give it.
     pub fn round(self, answers: [Answer; 4], image: &[u8], store: &[u8]) -> (WaitBook, u8) {
@@ -141,46 +171,83 @@ impl WaitBook {
         .without_ended()
     }
 
-    /// The second half. Each job needs one device, so what one device picks is no matter for the
+    /// The second half. Each job needs one device, so what one device does is no matter for the
     /// others.
     fn after_starts(self) -> WaitBook {
-        let picks: Vec<_> = (0..self.stations.len()).map(|device| self.pick(device)).collect();
-        let station = |(station, pick): (Station, &Option<usize>)| match pick {
-            None => station,
-            Some(area) => match self.entries[*area].next_piece() {
-                Some(piece) => Station::Runs { area: *area, piece, polls: 0 },
-                None => Station::LockedFor(*area),
-            },
-        };
-        let stations = self.stations.iter().copied().zip(&picks).map(station).collect();
-        let entry = |(number, entry): (usize, Entry)| {
-            let gets_lock = entry.next_piece().is_none() && picks.contains(&Some(number));
-            if gets_lock {
-                entry.ended_by_round()
-            } else {
-                entry
-            }
-        };
+        let turns: Vec<_> = (0..self.stations.len()).map(|device| self.turn(device)).collect();
+        let stations = self.stations.iter().zip(&turns);
+        let stations = stations.map(|(station, turn)| self.station_after(*station, turn)).collect();
+        let entry =
+            |(number, entry): (usize, Entry)| match turns.iter().find(|turn| turn.moves(number)) {
+                Some(turn) => entry.after_turn(turn),
+                None => entry,
+            };
         let entries = self.entries.into_iter().enumerate().map(entry).collect();
         WaitBook { stations, entries, plan: self.plan, order: self.order }.without_ended()
     }
 
-    /// The area that an unlocked device with nothing running starts something for: of those that
-    /// need it the first in the order of ranks.
-    fn pick(&self, device: usize) -> Option<usize> {
-        let needs_it = |area: &usize| self.entries[*area].needs() == Some(device);
-        match self.stations[device] {
-            Station::Nothing => {
-                let areas = (0..self.entries.len()).filter(needs_it);
-                areas.min_by_key(|area| self.rank(*area))
+    fn station_after(&self, station: Station, turn: &Turn) -> Station {
+        let runs = |area: usize, polls: u64| {
+            let piece = self.entries[area].next_piece();
+            piece.map(|piece| Station::Runs { area, piece, polls })
+        };
+        match *turn {
+            Turn::Stays => station,
+            Turn::Begins(area) | Turn::GivesWay { to: area, .. } => {
+                runs(area, 0).unwrap_or(Station::LockedFor(area))
             }
-            Station::Runs { .. } | Station::LockedFor(_) => None,
+            Turn::Resumes { area, polls } => runs(area, polls).expect("an erase has a piece"),
         }
+    }
+
+    /// What becomes of a device: locked it starts nothing, free it takes the first in the order of
+    /// ranks. "When, in a round's second half, the highest ranked ready job there (...) outranks the
+    /// running erase's area and its next piece is no erase, the erase is parked with its polls kept
+    /// and that piece starts." "After each piece the parked erase resumes, unless the highest ranked
+    /// ready job again qualifies. One erase is parked per chip".
+    fn turn(&self, device: usize) -> Turn {
+        let first = self.first_ready(device);
+        let over = |erasing: usize| first.filter(|area| self.goes_over(*area, erasing));
+        match (self.stations[device], self.suspended_on(device)) {
+            (Station::Nothing, None) => first.map_or(Turn::Stays, Turn::Begins),
+            (Station::Nothing, Some((area, polls))) => {
+                over(area).map_or(Turn::Resumes { area, polls }, Turn::Begins)
+            }
+            (Station::Runs { area, polls, .. }, None) if self.may_give_way(device, area) => {
+                over(area).map_or(Turn::Stays, |to| Turn::GivesWay { area, polls, to })
+            }
+            (Station::Runs { .. } | Station::LockedFor(_), _) => Turn::Stays,
+        }
+    }
+
+    /// Of the jobs that need a device, and of which nothing runs or is suspended, the first in the
+    /// order of ranks.
+    fn first_ready(&self, device: usize) -> Option<usize> {
+        let is_ready = |area: &usize| {
+            let entry = &self.entries[*area];
+            entry.needs() == Some(device) && entry.suspended.is_none() && !self.runs_for(*area)
+        };
+        let ready = (0..self.entries.len()).filter(is_ready);
+        ready.min_by_key(|area| self.rank(*area))
+    }
+
+    /// "A device record with mark hex 44 53, laid out as before, means the chip can pause." Only an
+    /// erase gives way there.
+    fn may_give_way(&self, device: usize, area: usize) -> bool {
+        self.plan.devices[device].can_suspend && self.entries[area].is_erase()
+    }
+
+    /// Does a ready job go over the erase of an area? "A lock request has no piece and parks
+    /// nothing."
+    fn goes_over(&self, area: usize, erasing: usize) -> bool {
+        let entry = &self.entries[area];
+        self.rank(area) < self.rank(erasing) && !entry.is_erase() && !entry.is_lock()
     }
 
     /// "Each job still pending adds 1 to own if its request runs; else, if another area's request
     /// runs on the device it needs, to above if that area ranks above the job's, to below if under
-    /// it; else, if that device is locked, to locked."
+    /// it; else, if that device is locked, to locked." "The wait counts, in the wait book too, and
+    /// job info take a parked erase as not running".
     fn after_counting(self) -> WaitBook {
         let ranks: Vec<_> = (0..self.entries.len()).map(|area| self.rank(area)).collect();
         let WaitBook { plan, stations, entries, order } = self;
@@ -234,6 +301,16 @@ impl Entry {
         let entry = Entry { next: self.next + 1, ..self };
         let retries_left = entry.next_piece().map_or(0, |next| next.retries);
         Entry { retries_left, ..entry }
+    }
+
+    /// The entry of an area that a turn changes: a lock given ends its request.
+    fn after_turn(self, turn: &Turn) -> Entry {
+        match *turn {
+            Turn::GivesWay { polls, .. } => Entry { suspended: Some(polls), ..self },
+            Turn::Resumes { .. } => Entry { suspended: None, ..self },
+            Turn::Begins(_) if self.is_lock() => self.ended_by_round(),
+            Turn::Begins(_) | Turn::Stays => self,
+        }
     }
 
     fn ended_by_round(self) -> Entry {

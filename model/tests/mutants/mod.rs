@@ -1,12 +1,16 @@
 //! Subjects that are wrong on purpose: the model with its plan, its lines or its output changed on
-//! the way, or with another order of acceptance. The comparison must find each of them.
+//! the way, with another order of acceptance, or with erases that give way wrongly. The comparison
+//! must find each of them.
 
 mod order;
+mod suspension;
 
+use model::manager::{DeviceState, Manager, Request};
 use model::plan::{self, Plan};
 use model::plans::encode;
 use model::subject::{Model, Subject};
 use order::{Event, Places};
+use suspension::Flaw;
 
 /// From plan, input, image and store to the output.
 type WrongSession = fn(&[u8], &[u8], &mut [u8], &mut [u8]) -> Vec<u8>;
@@ -40,10 +44,15 @@ macro_rules! order_mutant {
 
 pub fn all() -> Vec<Mutant> {
     let mut all = of_plans();
+    all.extend(of_marks());
     all.extend(of_lines());
     all.extend(of_outputs());
     all.extend(of_memory());
     all.extend(of_order());
+    all.extend(of_giving_way());
+    all.extend(of_going_over());
+    all.extend(of_suspended_polls());
+    all.extend(of_suspended_jobs());
     all
 }
 
@@ -115,6 +124,19 @@ fn of_plans() -> Vec<Mutant> {
             .areas
             .iter_mut()
             .for_each(|a| a.window_length = a.window_length.saturating_sub(1))),
+    ]
+}
+
+fn of_marks() -> Vec<Mutant> {
+    vec![
+        plan_mutant!("every chip suspends", |p| p
+            .devices
+            .iter_mut()
+            .for_each(|d| d.can_suspend = true)),
+        plan_mutant!("no chip suspends", |p| p
+            .devices
+            .iter_mut()
+            .for_each(|d| d.can_suspend = false)),
     ]
 }
 
@@ -304,6 +326,168 @@ fn of_order() -> Vec<Mutant> {
                 Event::Accepted { area, .. } if places.numbers[area] > 0 => {}
                 _ => places.keep(event),
             }
+        }),
+    ]
+}
+
+/// Makes a mutant of a flaw in how erases give way.
+macro_rules! flaw_mutant {
+    ($name:expr, $flaw:expr) => {
+        Mutant {
+            name: $name,
+            session: |plan, input, image, store| {
+                suspension::session($flaw, plan, input, image, store)
+            },
+        }
+    };
+}
+
+/// No mutant: the rounds go by their halves, and nothing steps in.
+pub fn no_flaw() -> Mutant {
+    flaw_mutant!("no flaw", Flaw::Stays(|_| false))
+}
+
+/// Which running requests give way, and to whom.
+fn of_giving_way() -> Vec<Mutant> {
+    vec![
+        flaw_mutant!(
+            "a lock request suspends",
+            Flaw::GivesWay(|scene, ready| {
+                scene.may_give_way() && ready.is_highest && ready.outranks && ready.is_lock()
+            })
+        ),
+        flaw_mutant!(
+            "an erase suspends an erase",
+            Flaw::GivesWay(|scene, ready| {
+                scene.may_give_way() && ready.is_highest && ready.outranks && ready.is_erase()
+            })
+        ),
+        flaw_mutant!(
+            "any request gives way",
+            Flaw::GivesWay(|scene, ready| {
+                let gives_way = scene.can_suspend && !scene.is_suspended;
+                gives_way && ready.is_highest && ready.outranks && ready.is_other()
+            })
+        ),
+        flaw_mutant!(
+            "an erase gives way to lower ranks",
+            Flaw::GivesWay(|scene, ready| {
+                scene.may_give_way() && ready.is_highest && ready.is_other()
+            })
+        ),
+        flaw_mutant!(
+            "locks and erases are passed over",
+            Flaw::GivesWay(|scene, ready| {
+                scene.may_give_way() && ready.outranks && ready.is_other()
+            })
+        ),
+        flaw_mutant!(
+            "a cancelled erase does not give way",
+            Flaw::Stays(|scene| { scene.may_give_way() && scene.is_cancelled })
+        ),
+    ]
+}
+
+/// What goes on over a suspended erase.
+fn of_going_over() -> Vec<Mutant> {
+    vec![
+        flaw_mutant!(
+            "a lock is given while an erase is suspended",
+            Flaw::GivesWay(|scene, ready| {
+                scene.is_suspended && ready.is_highest && ready.outranks && ready.is_lock()
+            })
+        ),
+        flaw_mutant!(
+            "an erase goes over a suspended erase",
+            Flaw::GivesWay(|scene, ready| {
+                scene.is_suspended && ready.is_highest && ready.outranks && ready.is_erase()
+            })
+        ),
+        flaw_mutant!(
+            "lower ranks go over a suspended erase",
+            Flaw::GivesWay(|scene, ready| {
+                scene.is_suspended && ready.is_highest && ready.is_other()
+            })
+        ),
+        flaw_mutant!(
+            "the erase resumes after every piece",
+            Flaw::Closed(|before, after, device| {
+                if let [Some(_), Some(erase), Some(Request { polls: 0, .. })] =
+                    round_of(before, after, device)
+                {
+                    after.set_device(device, DeviceState::Running(erase), None);
+                }
+            })
+        ),
+    ]
+}
+
+/// What is suspended on a device before a round and after it, and what runs then.
+fn round_of(before: &Manager, after: &Manager, device: usize) -> [Option<Request>; 3] {
+    let running = match after.device(device) {
+        DeviceState::Running(request) => Some(request),
+        DeviceState::Free | DeviceState::Locked(_) => None,
+    };
+    [before.suspended(device), after.suspended(device), running]
+}
+
+/// Gives a suspended erase other polls.
+fn set_polls(manager: &mut Manager, device: usize, erase: Request, polls: u16) {
+    manager.set_device(device, manager.device(device), Some(Request { polls, ..erase }));
+}
+
+fn of_suspended_polls() -> Vec<Mutant> {
+    vec![
+        flaw_mutant!(
+            "polls are lost at the suspension",
+            Flaw::Closed(|before, after, device| {
+                if let [None, Some(erase), _] = round_of(before, after, device) {
+                    set_polls(after, device, erase, 0);
+                }
+            })
+        ),
+        flaw_mutant!(
+            "the round that suspends gives no poll",
+            Flaw::Closed(|before, after, device| {
+                if let [None, Some(erase), _] = round_of(before, after, device) {
+                    set_polls(after, device, erase, erase.polls - 1);
+                }
+            })
+        ),
+        flaw_mutant!(
+            "suspended erases are polled",
+            Flaw::Closed(|before, after, device| {
+                if let [Some(_), Some(erase), _] = round_of(before, after, device) {
+                    set_polls(after, device, erase, erase.polls + 1);
+                }
+            })
+        ),
+        flaw_mutant!(
+            "the resume gives a poll",
+            Flaw::Closed(|before, after, device| {
+                if let [Some(_), None, Some(erase)] = round_of(before, after, device) {
+                    let polled = Request { polls: erase.polls + 1, ..erase };
+                    after.set_device(device, DeviceState::Running(polled), None);
+                }
+            })
+        ),
+    ]
+}
+
+fn of_suspended_jobs() -> Vec<Mutant> {
+    vec![
+        flaw_mutant!(
+            "a cancel ends a suspended erase",
+            Flaw::Cancelled(|manager, device, area| {
+                let is_of = |erase: Request| u32::try_from(erase.area) == Ok(area);
+                if manager.suspended(device).is_some_and(is_of) {
+                    manager.set_device(device, manager.device(device), None);
+                }
+            })
+        ),
+        flaw_mutant!("the area of a suspended erase counts own", Flaw::CountsOwn),
+        moved_mutant!("a suspended erase goes last", Event::Suspended { area } => places {
+            places.numbers[area] = places.last();
         }),
     ]
 }

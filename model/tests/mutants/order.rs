@@ -25,6 +25,10 @@ pub enum Event {
     Cancelled {
         area: usize,
     },
+    /// An erase gave way.
+    Suspended {
+        area: usize,
+    },
     Ended,
 }
 
@@ -100,7 +104,9 @@ fn events_of_answers(session: &Session, line: &[u8]) -> Vec<Event> {
     let is_retry = |area: &usize| {
         let (before, after) = infos(*area);
         let runs_on = after.request.length > 0 && after.request.polls == before.request.polls + 1;
-        before.request.length > 0 && after.processed == before.processed && !runs_on
+        let is_suspended = suspended(&next.manager).contains(area);
+        let is_done = after.processed > before.processed;
+        before.request.length > 0 && !is_done && !runs_on && !is_suspended
     };
     let (pending, still_pending) = (session.manager.order(), next.manager.order());
     let retries = still_pending.iter().filter(|area| is_retry(area));
@@ -110,7 +116,13 @@ fn events_of_answers(session: &Session, line: &[u8]) -> Vec<Event> {
     events
 }
 
-/// What a line other than a round has done, and locks given by a round.
+/// The areas whose erases are suspended.
+fn suspended(manager: &Manager) -> Vec<usize> {
+    let erases = (0..manager.plan().devices.len()).filter_map(|device| manager.suspended(device));
+    erases.map(|erase| erase.area).collect()
+}
+
+/// What a line other than a round has done, and locks given and erases suspended by a round.
 fn events_of_call(line: &[u8], answer: &[u8], before: &Manager, after: &Manager) -> Vec<Event> {
     let fields: Vec<_> = line.trim_ascii_end().split(|byte| *byte == b' ').map(number).collect();
     let is_pending = |manager: &Manager, area: usize| manager.order().contains(&area);
@@ -126,7 +138,10 @@ fn events_of_call(line: &[u8], answer: &[u8], before: &Manager, after: &Manager)
         [Some(9), Some(area)] if is_pending(after, area) => Some(Event::Cancelled { area }),
         _ => has_ended.then_some(Event::Ended),
     };
-    event.into_iter().collect()
+    let mut suspended_now = suspended(after);
+    suspended_now.retain(|area| !suspended(before).contains(area));
+    let suspensions = suspended_now.into_iter().map(|area| Event::Suspended { area });
+    event.into_iter().chain(suspensions).collect()
 }
 
 fn info(manager: &Manager, area: usize) -> JobInfo {

@@ -1,5 +1,5 @@
-use Rattle.machine.specs.Sound.{jobIn}
 use native.Mathlib.Omega.{arith}
+use Rattle.machine.specs.Sound.{jobIn}
 use Rattle.shown.specs.ShownLaws.{request-shown}
 use borrow.Author.Needs.{needs}
 use Rattle.shown.proofs.area_request.Statement.{statement}
@@ -7,17 +7,19 @@ use Rattle.shown.proofs.area_request.Tie as tie
 use Rattle.shown.proofs.area_request.Reads as reads
 use Rattle.shown.proofs.area_request.Lts as lts
 use Rattle.memory.proofs.JobType.number.Reads as number-reads
-use Rattle.segment.proofs.segment_at.Reads as segment-at-reads
+use Rattle.segment.proofs.segment_from.Reads as segment-from-reads
+use Rattle.shown.proofs.job_of.Reads as job-of-reads
+use Rattle.shown.proofs.start_of.Reads as start-of-reads
 use Rattle.texts.proofs.request_text.Reads as request-text-reads
 
-mul-entry : tie.Need-mul-entry
-mul-entry c = search needs
+job-of-requires : tie.Need-job-of-requires
+job-of-requires c κs = search needs
 
-array-copy-out-entry : tie.Need-array-copy-out-entry
-array-copy-out-entry c = search needs
+start-of-requires : tie.Need-start-of-requires
+start-of-requires c κs = search needs
 
-segment-at-requires : tie.Need-segment-at-requires
-segment-at-requires c κs = search needs
+segment-from-requires : tie.Need-segment-from-requires
+segment-from-requires c κs = search needs
 
 number-requires : tie.Need-number-requires
 number-requires c κs = search needs
@@ -32,15 +34,20 @@ same-length : tie.Need-same-length
 same-length c = search needs
 
 returns : tie.Need-returns
-returns c = (request-shown (c .before .before .before .before .before .before .before .before .before .before .args .plan) (jobIn (c .before .before .before .before .before .before .before .before .before .before .args .t4)) (c .before .before .before .before .before .before .before .before .before .before .args .area) _ _ (c .before .before .before .before .number .ensures) (c .before .before .before .before .before .segment-at .ensures) (c .before .before .request-text .ensures .0), omega arith)
+returns c =
+    let a = c .before .before .before .before .before .before .before .before .before .before .before .before .args in (
+      request-shown (a .plan) (jobIn (a .areas)) (a .area) _ _ _ _ (c .before .before .before .before .before .before .before .before .before .before .job-of .ensures) (c .before .before .before .before .number .ensures) (c .before .before .before .before .before .before .start-of .ensures) (c .before .before .before .before .before .segment-from .ensures)
+          (c .before .before .request-text .ensures .0),
+      omega arith,
+    )
 
 pub area-request-spec : {M : Type 1} → statement M
 area-request-spec =
     tie.close
     (tie.spec
-    mul-entry
-    array-copy-out-entry
-    segment-at-requires
+    job-of-requires
+    start-of-requires
+    segment-from-requires
     number-requires
     cast-request-text
     request-text-requires

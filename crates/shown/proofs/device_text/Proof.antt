@@ -26,7 +26,7 @@ enum-known-state : tie.Need-enum-known-state
 enum-known-state c = search needs
 
 area-request-requires : tie.Need-area-request-requires
-area-request-requires c κs = (omega arith, c .before .before .before .before .before .pre .1, rw (c .before .before .state .given .1) at (c .before .before .before .before .before .pre .2))
+area-request-requires c κs = search needs
 
 same-length : tie.Need-same-length
 same-length c = search needs

@@ -30,7 +30,7 @@ array-copy-out-device : tie.Need-array-copy-out-device Inv-loop μ-loop
 array-copy-out-device c = search needs
 
 device-text-requires : tie.Need-device-text-requires Inv-loop μ-loop
-device-text-requires c κs = (omega arith, c .before .before .before .before .before .pre .1, c .before .before .before .before .before .pre .3 (c .before .before .before .loop .d) (c .before .before .loop-test .taken))
+device-text-requires c κs = (omega arith, c .before .before .before .before .before .pre .1)
 
 add-d : tie.Need-add-d Inv-loop μ-loop
 add-d c = search needs

@@ -6,18 +6,18 @@ use Rattle.machine.proofs.queries.request_info.Statement.{statement}
 use Rattle.machine.proofs.queries.request_info.Tie as tie
 use Rattle.machine.proofs.queries.request_info.Reads as reads
 use Rattle.machine.proofs.queries.request_info.Lts as lts
-use Rattle.machine.proofs.devices.runs_somewhere.Reads as runs-somewhere-reads
+use Rattle.machine.proofs.devices.held_somewhere.Reads as held-somewhere-reads
 use Rattle.machine.proofs.queries.no_request.Reads as no-request-reads
 use Rattle.machine.proofs.queries.running_request.Reads as running-request-reads
 
-runs-somewhere-requires : tie.Need-runs-somewhere-requires
-runs-somewhere-requires c κs = search needs
+held-somewhere-requires : tie.Need-held-somewhere-requires
+held-somewhere-requires c κs = search needs
 
 no-request-requires : tie.Need-no-request-requires
 no-request-requires c κs = search needs
 
 returns : tie.Need-returns
-returns c = c .no-request .ensures ∙ none-request (c .before .before .before .args .devices) (c .before .before .before .args .area) 4 (c .before .before .before .good .1 .1 .0 .1 .0 .1) (sym (c .before .before .runs-somewhere .ensures) ∙ not-true (c .before .before .runs-somewhere .result) (c .before .if1 .taken)) _ _
+returns c = c .no-request .ensures ∙ none-request (c .before .before .before .args .devices) (c .before .before .before .args .area) 4 (c .before .before .before .good .1 .1 .0 .1 .0 .1) (sym (c .before .before .held-somewhere .ensures) ∙ not-true (c .before .before .held-somewhere .result) (c .before .if1 .taken)) _ _
 
 running-request-requires : tie.Need-running-request-requires
 running-request-requires c κs = search needs
@@ -29,7 +29,7 @@ pub request-info-spec : {M : Type 1} → statement M
 request-info-spec =
     tie.close
     (tie.spec
-    runs-somewhere-requires
+    held-somewhere-requires
     no-request-requires
     returns
     running-request-requires

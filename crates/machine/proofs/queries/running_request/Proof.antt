@@ -28,7 +28,7 @@ request-on-requires : tie.Need-request-on-requires
 request-on-requires c κs = search needs
 
 returns : tie.Need-returns
-returns c = c .request-on .ensures ∙ request-of (c .before .before .before .before .before .before .before .args .plan) (c .before .before .before .before .before .before .before .args .t2) (c .before .before .before .before .before .before .before .args .devices) (c .before .before .before .before .before .before .before .args .area) _ _ (c .before .before .before .segment-at .ensures) (c .before .state-on .ensures)
+returns c = c .request-on .ensures ∙ request-of (c .before .before .before .before .before .before .before .args .plan) (c .before .before .before .before .before .before .before .args .t2) (c .before .before .before .before .before .before .before .args .devices) (c .before .before .before .before .before .before .before .args .area) _ (c .before .before .before .segment-at .ensures) _ (c .before .state-on .ensures)
 
 pub running-request-spec : {M : Type 1} → statement M
 running-request-spec =

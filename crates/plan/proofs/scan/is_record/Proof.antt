@@ -1,7 +1,6 @@
 use borrow.Author.Tests.{le-leb, lt-leb, ne-eqb}
-use mathlib.Core.Path.{sym}
 use Rattle.plan.specs.Records.{isRecord}
-use Rattle.plan.specs.RecordLaws.{record-second}
+use Rattle.plan.specs.RecordLaws.{record-this, record-that}
 use lib.ListN.{length}
 use native.Mathlib.Omega.{arith}
 use Prim.Native.Nat.{_+_}
@@ -29,16 +28,27 @@ returns-2 c =
     let a = c .before .before .before .before .before .args in
     simp (ne-eqb _ _ (c .if2 .taken), le-leb (a .at + a .format .size) (length (a .bytes .now)) (omega arith))
 
+add-if3 : tie.Need-add-if3
+add-if3 c = search needs
+
+shared-slice-read-if3 : tie.Need-shared-slice-read-if3
+shared-slice-read-if3 c = search needs
+
+returns-3 : tie.Need-returns-3
+returns-3 c =
+    let a = c .before .before .before .before .before .before .before .before .args in
+    record-this (a .format) (a .bytes .now) (a .at) (omega arith) (c .before .before .before .if2 .left) (c .if3 .taken)
+
 add-result : tie.Need-add-result
 add-result c = search needs
 
 shared-slice-read-result : tie.Need-shared-slice-read-result
 shared-slice-read-result c = search needs
 
-returns-3 : tie.Need-returns-3
-returns-3 c =
-    let a = c .before .before .before .before .before .before .before .args in
-    sym (record-second (a .format) (a .bytes .now) (a .at) (omega arith) (c .before .before .if2 .left))
+returns-4 : tie.Need-returns-4
+returns-4 c =
+    let a = c .before .before .before .before .before .before .before .before .before .before .args in
+    record-that (a .format) (a .bytes .now) (a .at) (omega arith) (c .before .before .before .before .before .if2 .left) (c .before .before .if3 .left)
 
 pub is-record-spec : {M : Type 1} → statement M
 is-record-spec =
@@ -48,6 +58,9 @@ is-record-spec =
     returns
     shared-slice-read-if2
     returns-2
+    add-if3
+    shared-slice-read-if3
+    returns-3
     add-result
     shared-slice-read-result
-    returns-3)
+    returns-4)

@@ -38,7 +38,7 @@ same-length-2 : tie.Need-same-length-2
 same-length-2 c = search needs
 
 returns-3 : tie.Need-returns-3
-returns-3 c = let t = c .before .before .before .before .before .before .take-request .ensures in rw (c .before .before .before .before .before .before .before .before .before .before .before .before .before .before .state .given .1, ← (c .before .before .before .before .before .before .before .before .before .next-segment .ensures)) ((λ i. record { job = t .0 i; waits = c .before .before .before .before .before .before .before .before .before .before .before .before .before .before .before .before .before .before .args .entry .waits }), (t .1 .0, (t .1 .1 .0, (t .1 .1 .1 .0, t .1 .1 .1 .1))))
+returns-3 c = let t = c .before .before .before .before .before .before .take-request .ensures in rw (c .before .before .before .before .before .before .before .before .before .before .before .before .before .before .state .given .1, ← (c .before .before .before .before .before .before .before .before .before .next-segment .ensures)) ((λ i. record { job = t .0 i; waits = c .before .before .before .before .before .before .before .before .before .before .before .before .before .before .before .before .before .before .args .entry .waits }), (t .1 .0, ((λ i. record { state = t .1 .1 .0 i; suspended = c .before .before .before .before .before .before .before .before .before .before .before .before .before .before .before .before .before .before .args .device .suspended }), (t .1 .1 .1 .0, t .1 .1 .1 .1))))
 
 pub take-answer-spec : {M : Type 1} → statement M
 take-answer-spec =

@@ -1,3 +1,4 @@
+use mathlib.Core.List.{[]}
 use Rattle.rounds.specs.Picks.{needsLayout}
 use Rattle.rounds.specs.CloseLaws.{close-turn}
 use Rattle.rounds.specs.Close.{areaAfter, areasAfter}
@@ -18,7 +19,7 @@ use Rattle.rounds.proofs.close.closed_area.Reads as closed-area-reads
 use Rattle.state.proofs.Area.fresh.Reads as fresh-reads
 
 abbrev Inv-loop : tie.InvT-loop
-Inv-loop records ages devices needs before after areas₀ a₀ areas a = (a ≤ 8) × (areas ≡ table 8 (areaAfter (needsLayout records ages 0 needs) before (coreIn after devices)) freshArea a)
+Inv-loop records ages devices needs before after areas₀ a₀ areas a = (a ≤ 8) × (areas ≡ table 8 (areaAfter (needsLayout records ages 0 [] needs) before (coreIn after devices)) freshArea a)
 
 abbrev μ-loop : tie.MeasureT-loop
 μ-loop records ages devices needs before after areas₀ a₀ areas a = 8 - a

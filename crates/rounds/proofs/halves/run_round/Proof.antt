@@ -20,7 +20,7 @@ needed-devices-requires : tie.Need-needed-devices-requires
 needed-devices-requires c κs = search needs
 
 second-half-requires : tie.Need-second-half-requires
-second-half-requires c κs = let few = sound-counts (c .before .before .before .before .before .before .before .before .before .before .before .before .before .before .args .plan) (c .before .before .before .before .before .before .before .before .before .before .before .before .before .before .args .areas) (c .before .before .before .before .before .before .before .before .before .before .before .before .before .before .args .devices) (c .before .before .before .before .before .before .before .before .before .before .before .before .before .before .pre .0) in (few .1, few .0)
+second-half-requires c κs = let few = sound-counts (c .before .before .before .before .before .before .before .before .before .before .before .before .before .before .before .args .plan) (c .before .before .before .before .before .before .before .before .before .before .before .before .before .before .before .args .areas) (c .before .before .before .before .before .before .before .before .before .before .before .before .before .before .before .args .devices) (c .before .before .before .before .before .before .before .before .before .before .before .before .before .before .before .pre .0) in (few .1, few .0)
 
 close-requires : tie.Need-close-requires
 close-requires c κs = search needs
@@ -32,7 +32,7 @@ same-length-2 : tie.Need-same-length-2
 same-length-2 c = search needs
 
 returns : tie.Need-returns
-returns c = let few = sound-counts (c .before .before .before .before .before .before .before .before .before .before .before .before .before .before .before .before .before .before .args .plan) (c .before .before .before .before .before .before .before .before .before .before .before .before .before .before .before .before .before .before .args .areas) (c .before .before .before .before .before .before .before .before .before .before .before .before .before .before .before .before .before .before .args .devices) (c .before .before .before .before .before .before .before .before .before .before .before .before .before .before .before .before .before .before .pre .0) in (whole-areas (c .before .before .before .before .before .before .before .before .before .before .before .before .before .before .before .before .before .before .args .plan) (c .before .before .before .before .before .before .before .before .before .before .before .before .before .before .before .before .before .before .args .areas) (c .before .before .before .before .before .before .before .before .before .before .before .before .before .before .before .before .before .before .args .devices) (c .before .before .before .before .before .before .before .before .before .before .before .before .before .before .before .before .before .before .args .ages) (c .before .before .before .before .before .before .before .before .before .before .before .before .before .before .before .before .before .before .args .answers) (memoryOf (c .before .before .before .before .before .before .before .before .before .before .before .before .before .before .before .before .before .before .args .image .now) (c .before .before .before .before .before .before .before .before .before .before .before .before .before .before .before .before .before .before .args .store .now)) (few .1) (c .before .before .before .before .before .before .before .before .before .before .before .before .before .first-half .result .areas) (c .before .before .before .before .before .before .before .before .before .before .before .before .before .first-half .result .devices) (c .before .before .before .before .before .before .before .before .before .before .before .before .before .first-half .ensures .0) (c .before .before .before .before .before .before .before .before .before .before .before .before .before .first-half .result .dues) (c .before .before .before .before .before .before .before .before .before .before .before .before .before .first-half .ensures .1 .0) (c .before .before .before .before .before .needed-devices .result) (c .before .before .before .before .before .needed-devices .ensures) (c .before .before .before .second-half .result .areas) (c .before .before .before .second-half .result .devices) (c .before .before .before .second-half .ensures) _ (c .close .ensures), (whole-devices (c .before .before .before .before .before .before .before .before .before .before .before .before .before .before .before .before .before .before .args .plan) (c .before .before .before .before .before .before .before .before .before .before .before .before .before .before .before .before .before .before .args .areas) (c .before .before .before .before .before .before .before .before .before .before .before .before .before .before .before .before .before .before .args .devices) (c .before .before .before .before .before .before .before .before .before .before .before .before .before .before .before .before .before .before .args .ages) (c .before .before .before .before .before .before .before .before .before .before .before .before .before .before .before .before .before .before .args .answers) (memoryOf (c .before .before .before .before .before .before .before .before .before .before .before .before .before .before .before .before .before .before .args .image .now) (c .before .before .before .before .before .before .before .before .before .before .before .before .before .before .before .before .before .before .args .store .now)) (few .1) (c .before .before .before .before .before .before .before .before .before .before .before .before .before .first-half .result .areas) (c .before .before .before .before .before .before .before .before .before .before .before .before .before .first-half .result .devices) (c .before .before .before .before .before .before .before .before .before .before .before .before .before .first-half .ensures .0) (c .before .before .before .before .before .before .before .before .before .before .before .before .before .first-half .result .dues) (c .before .before .before .before .before .before .before .before .before .before .before .before .before .first-half .ensures .1 .0) (c .before .before .before .before .before .needed-devices .result) (c .before .before .before .before .before .needed-devices .ensures) (c .before .before .before .second-half .result .areas) (c .before .before .before .second-half .result .devices) (c .before .before .before .second-half .ensures) (sym (length-map (c .before .before .before .second-half .result .devices) _) ∙ c .before .before .before .second-half .ok .1 .1 .1 .0 .1 .0 .1), (c .before .before .before .before .before .before .before .before .before .before .before .before .before .first-half .ensures .1 .1 .0 ∙ ap (λ m. m .image) (whole-memory (c .before .before .before .before .before .before .before .before .before .before .before .before .before .before .before .before .before .before .args .plan) (c .before .before .before .before .before .before .before .before .before .before .before .before .before .before .before .before .before .before .args .areas) (c .before .before .before .before .before .before .before .before .before .before .before .before .before .before .before .before .before .before .args .devices) (c .before .before .before .before .before .before .before .before .before .before .before .before .before .before .before .before .before .before .args .ages) (c .before .before .before .before .before .before .before .before .before .before .before .before .before .before .before .before .before .before .args .answers) (memoryOf (c .before .before .before .before .before .before .before .before .before .before .before .before .before .before .before .before .before .before .args .image .now) (c .before .before .before .before .before .before .before .before .before .before .before .before .before .before .before .before .before .before .args .store .now))), c .before .before .before .before .before .before .before .before .before .before .before .before .before .first-half .ensures .1 .1 .1 ∙ ap (λ m. m .store) (whole-memory (c .before .before .before .before .before .before .before .before .before .before .before .before .before .before .before .before .before .before .args .plan) (c .before .before .before .before .before .before .before .before .before .before .before .before .before .before .before .before .before .before .args .areas) (c .before .before .before .before .before .before .before .before .before .before .before .before .before .before .before .before .before .before .args .devices) (c .before .before .before .before .before .before .before .before .before .before .before .before .before .before .before .before .before .before .args .ages) (c .before .before .before .before .before .before .before .before .before .before .before .before .before .before .before .before .before .before .args .answers) (memoryOf (c .before .before .before .before .before .before .before .before .before .before .before .before .before .before .before .before .before .before .args .image .now) (c .before .before .before .before .before .before .before .before .before .before .before .before .before .before .before .before .before .before .args .store .now))))))
+returns c = let few = sound-counts (c .before .before .before .before .before .before .before .before .before .before .before .before .before .before .before .before .before .before .before .args .plan) (c .before .before .before .before .before .before .before .before .before .before .before .before .before .before .before .before .before .before .before .args .areas) (c .before .before .before .before .before .before .before .before .before .before .before .before .before .before .before .before .before .before .before .args .devices) (c .before .before .before .before .before .before .before .before .before .before .before .before .before .before .before .before .before .before .before .pre .0) in (whole-areas (c .before .before .before .before .before .before .before .before .before .before .before .before .before .before .before .before .before .before .before .args .plan) (c .before .before .before .before .before .before .before .before .before .before .before .before .before .before .before .before .before .before .before .args .areas) (c .before .before .before .before .before .before .before .before .before .before .before .before .before .before .before .before .before .before .before .args .devices) (c .before .before .before .before .before .before .before .before .before .before .before .before .before .before .before .before .before .before .before .args .ages) (c .before .before .before .before .before .before .before .before .before .before .before .before .before .before .before .before .before .before .before .args .answers) (memoryOf (c .before .before .before .before .before .before .before .before .before .before .before .before .before .before .before .before .before .before .before .args .image .now) (c .before .before .before .before .before .before .before .before .before .before .before .before .before .before .before .before .before .before .before .args .store .now)) (few .1) (c .before .before .before .before .before .before .before .before .before .before .before .before .before .before .first-half .result .areas) (c .before .before .before .before .before .before .before .before .before .before .before .before .before .before .first-half .result .devices) (c .before .before .before .before .before .before .before .before .before .before .before .before .before .before .first-half .ensures .0) (c .before .before .before .before .before .before .before .before .before .before .before .before .before .before .first-half .result .dues) (c .before .before .before .before .before .before .before .before .before .before .before .before .before .before .first-half .ensures .1 .0) (c .before .before .before .before .before .before .needed-devices .result) (c .before .before .before .before .before .before .needed-devices .ensures) (c .before .before .before .second-half .result .areas) (c .before .before .before .second-half .result .devices) (c .before .before .before .second-half .ensures) _ (c .close .ensures), (whole-devices (c .before .before .before .before .before .before .before .before .before .before .before .before .before .before .before .before .before .before .before .args .plan) (c .before .before .before .before .before .before .before .before .before .before .before .before .before .before .before .before .before .before .before .args .areas) (c .before .before .before .before .before .before .before .before .before .before .before .before .before .before .before .before .before .before .before .args .devices) (c .before .before .before .before .before .before .before .before .before .before .before .before .before .before .before .before .before .before .before .args .ages) (c .before .before .before .before .before .before .before .before .before .before .before .before .before .before .before .before .before .before .before .args .answers) (memoryOf (c .before .before .before .before .before .before .before .before .before .before .before .before .before .before .before .before .before .before .before .args .image .now) (c .before .before .before .before .before .before .before .before .before .before .before .before .before .before .before .before .before .before .before .args .store .now)) (few .1) (c .before .before .before .before .before .before .before .before .before .before .before .before .before .before .first-half .result .areas) (c .before .before .before .before .before .before .before .before .before .before .before .before .before .before .first-half .result .devices) (c .before .before .before .before .before .before .before .before .before .before .before .before .before .before .first-half .ensures .0) (c .before .before .before .before .before .before .before .before .before .before .before .before .before .before .first-half .result .dues) (c .before .before .before .before .before .before .before .before .before .before .before .before .before .before .first-half .ensures .1 .0) (c .before .before .before .before .before .before .needed-devices .result) (c .before .before .before .before .before .before .needed-devices .ensures) (c .before .before .before .second-half .result .areas) (c .before .before .before .second-half .result .devices) (c .before .before .before .second-half .ensures) (sym (length-map (c .before .before .before .second-half .result .devices) _) ∙ c .before .before .before .second-half .ok .1 .1 .1 .0 .1 .0 .1), (c .before .before .before .before .before .before .before .before .before .before .before .before .before .before .first-half .ensures .1 .1 .0 ∙ ap (λ m. m .image) (whole-memory (c .before .before .before .before .before .before .before .before .before .before .before .before .before .before .before .before .before .before .before .args .plan) (c .before .before .before .before .before .before .before .before .before .before .before .before .before .before .before .before .before .before .before .args .areas) (c .before .before .before .before .before .before .before .before .before .before .before .before .before .before .before .before .before .before .before .args .devices) (c .before .before .before .before .before .before .before .before .before .before .before .before .before .before .before .before .before .before .before .args .ages) (c .before .before .before .before .before .before .before .before .before .before .before .before .before .before .before .before .before .before .before .args .answers) (memoryOf (c .before .before .before .before .before .before .before .before .before .before .before .before .before .before .before .before .before .before .before .args .image .now) (c .before .before .before .before .before .before .before .before .before .before .before .before .before .before .before .before .before .before .before .args .store .now))), c .before .before .before .before .before .before .before .before .before .before .before .before .before .before .first-half .ensures .1 .1 .1 ∙ ap (λ m. m .store) (whole-memory (c .before .before .before .before .before .before .before .before .before .before .before .before .before .before .before .before .before .before .before .args .plan) (c .before .before .before .before .before .before .before .before .before .before .before .before .before .before .before .before .before .before .before .args .areas) (c .before .before .before .before .before .before .before .before .before .before .before .before .before .before .before .before .before .before .before .args .devices) (c .before .before .before .before .before .before .before .before .before .before .before .before .before .before .before .before .before .before .before .args .ages) (c .before .before .before .before .before .before .before .before .before .before .before .before .before .before .before .before .before .before .before .args .answers) (memoryOf (c .before .before .before .before .before .before .before .before .before .before .before .before .before .before .before .before .before .before .before .args .image .now) (c .before .before .before .before .before .before .before .before .before .before .before .before .before .before .before .before .before .before .before .args .store .now))))))
 
 pub run-round-spec : {M : Type 1} → statement M
 run-round-spec =

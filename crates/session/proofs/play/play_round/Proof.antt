@@ -55,7 +55,7 @@ devices-line-requires c κs = let a = c .before .before .before .before .before 
     let k = round-keeps (a .manager) (a .answers) lent in
     let zero : roundNumberOf (a .manager) lent ≡ 0 = omega (arith, c .before .before .before .before .number .ensures ∙ r .0, c .before .before .before .if1 .left) in
     let s = round-shows (a .manager) (a .answers) lent zero _ (kept-state (a .manager) _ (afterRound (a .manager) (a .answers) lent) (r .1 .0) k) in
-    (omega arith, s .0, s .1, s .2)
+    (omega arith, s .0, s .1)
 
 of-requires-2 : tie.Need-of-requires-2
 of-requires-2 c κs = search needs

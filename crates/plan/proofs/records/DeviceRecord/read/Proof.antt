@@ -25,9 +25,15 @@ add-u16-at c = search needs
 u16-at-requires : tie.Need-u16-at-requires
 u16-at-requires c κs = search needs
 
+add-mark : tie.Need-add-mark
+add-mark c = search needs
+
+shared-slice-read-mark : tie.Need-shared-slice-read-mark
+shared-slice-read-mark c = search needs
+
 returns : tie.Need-returns
 unfolding deviceAt
-returns c = simp (← (c .u16-at .ensures), ← (c .before .u32-at2 .ensures), ← (c .before .before .u32-at .ensures))
+returns c = simp (← (c .before .u16-at .ensures), ← (c .before .before .u32-at2 .ensures), ← (c .before .before .before .u32-at .ensures))
 
 pub read-spec : {M : Type 1} → statement M
 read-spec =
@@ -39,4 +45,6 @@ read-spec =
     u32-at-requires-2
     add-u16-at
     u16-at-requires
+    add-mark
+    shared-slice-read-mark
     returns)

@@ -1,0 +1,238 @@
+//! The jobs and devices of a session, told from the plan, the lines and the output.
+//!
+//! Only what is sure counts: a job is known to wait from its acceptance until its first request is
+//! shown, and between a piece that was done and the next one that is shown. Polls and suspended erases
+//! are known from what is shown and answered.
+
+use super::{equals, suspensions};
+use super::{fields, number, Kind};
+use crate::jobs::Operation;
+use crate::plan::Plan;
+use crate::segments::{self, index, Piece};
+
+pub(super) struct Follower<'a> {
+    pub(super) plan: &'a Plan,
+    /// The latest accepted one of each area.
+    pub(super) jobs: Vec<Option<Accepted>>,
+    /// What each device showed in the last round, with the polls it has had.
+    pub(super) shown: Vec<Shown>,
+    pub(super) polls: Vec<u64>,
+    /// Of each device.
+    pub(super) suspended: Vec<Option<Suspended>>,
+    /// Accepted jobs and locks of each area.
+    acceptances: Vec<u64>,
+}
+
+pub(super) struct Accepted {
+    /// How many were accepted before it.
+    pub(super) number: u64,
+    /// None if it is a lock request.
+    pub(super) operation: Option<Operation>,
+    pieces: Vec<Piece>,
+    /// The devices of its stretches.
+    pub(super) stretches: Vec<usize>,
+    pub(super) is_cancelled: bool,
+    /// The device that it is known to wait for.
+    waits_for: Option<usize>,
+}
+
+/// The erase of this area, with these polls.
+#[derive(Clone, Copy)]
+pub(super) struct Suspended {
+    pub(super) area: usize,
+    pub(super) polls: u64,
+}
+
+#[derive(Clone, Copy, PartialEq, Eq)]
+pub(super) enum Shown {
+    Nothing,
+    Lock,
+    Request { area: usize, job_type: u64, start: u64 },
+}
+
+/// How a device comes to show what it does.
+#[derive(Clone, Copy, Debug, PartialEq, Eq)]
+pub(super) enum Change {
+    /// What it shows is as before.
+    RunsOn,
+    Begins,
+    /// A failed or dropped request begins again.
+    Retries,
+    /// A request begins, and the erase before it is suspended.
+    Suspends,
+    /// A suspended erase runs again.
+    Resumes,
+}
+
+impl Shown {
+    fn of(field: &[u8]) -> Shown {
+        let numbers: Vec<_> = field.split(|byte| *byte == b':').map(number).collect();
+        match numbers[..] {
+            [area, job_type, start, _] => Shown::Request { area: index(area), job_type, start },
+            _ if field == b"L" => Shown::Lock,
+            _ => Shown::Nothing,
+        }
+    }
+
+    pub(super) fn area(self) -> Option<usize> {
+        match self {
+            Shown::Request { area, .. } => Some(area),
+            Shown::Nothing | Shown::Lock => None,
+        }
+    }
+}
+
+impl Accepted {
+    /// The device of the piece behind this one, if the job surely goes on to it.
+    fn device_behind(&self, done: u64) -> Option<usize> {
+        let is_check = matches!(self.operation, Some(Operation::Compare | Operation::BlankCheck));
+        let behind = self.pieces.iter().skip_while(|piece| piece.start != done).nth(1);
+        behind.filter(|_| !self.is_cancelled && !is_check).map(|piece| piece.device)
+    }
+}
+
+impl<'a> Follower<'a> {
+    pub(super) fn of(plan: &'a Plan) -> Self {
+        Follower {
+            plan,
+            jobs: plan.areas.iter().map(|_| None).collect(),
+            shown: vec![Shown::Nothing; plan.devices.len()],
+            polls: vec![0; plan.devices.len()],
+            suspended: vec![None; plan.devices.len()],
+            acceptances: vec![0; plan.areas.len()],
+        }
+    }
+
+    /// Of the area with fewest.
+    pub(super) fn fewest_acceptances(&self) -> u64 {
+        self.acceptances.iter().copied().min().unwrap_or(0)
+    }
+
+    /// The areas that are known to wait for the device, with their jobs.
+    pub(super) fn waiting(&self, device: usize) -> impl Iterator<Item = (usize, &Accepted)> {
+        let jobs = self.jobs.iter().enumerate();
+        let jobs = jobs.filter_map(|(area, job)| job.as_ref().map(|job| (area, job)));
+        jobs.filter(move |(_, job)| job.waits_for == Some(device))
+    }
+
+    /// Follows a line that is read, with its answer, and gives what came up.
+    pub(super) fn line(&mut self, line: &[u8], answer: &[u8]) -> Vec<Kind> {
+        let numbers: Vec<_> = fields(line).map(number).collect();
+        match (&numbers[..], answer) {
+            (_, [b'R', ..]) => {
+                let words: Vec<_> = fields(line).skip(1).collect();
+                return self.round(&words, fields(answer).skip(1).map(Shown::of).collect());
+            }
+            ([8, area, address, _], b"0") => {
+                let device = segments::device(self.plan, index(*area), *address);
+                self.shown[device.expect("inside the area")] = Shown::Nothing;
+            }
+            ([9, area], b"0") => return self.cancel(index(*area)),
+            ([10, area], _) => return suspensions::of_info(self, index(*area), answer),
+            ([job_type, area, address, length], b"0") => {
+                self.accept(*job_type, index(*area), *address..*address + *length);
+            }
+            _ => {}
+        }
+        Vec::new()
+    }
+
+    fn accept(&mut self, job_type: u64, area: usize, range: std::ops::Range<u64>) {
+        let mut operations = Operation::ALL.into_iter();
+        let operation = operations.find(|operation| u64::from(operation.number()) == job_type);
+        let waits_for = segments::device(self.plan, area, range.start);
+        let pieces = operation.map(|o| segments::pieces(self.plan, o, area, range).collect());
+        let pieces: Vec<Piece> = pieces.unwrap_or_default();
+        // A lock request has no piece and one stretch, where it waits.
+        let mut stretches: Vec<_> = waits_for.into_iter().collect();
+        stretches.extend(pieces.iter().map(|piece| piece.device));
+        stretches.dedup();
+        self.jobs[area] = Some(Accepted {
+            number: self.acceptances.iter().sum(),
+            operation,
+            pieces,
+            stretches,
+            is_cancelled: false,
+            waits_for,
+        });
+        self.acceptances[area] += 1;
+    }
+
+    fn cancel(&mut self, area: usize) -> Vec<Kind> {
+        let came_up = suspensions::of_cancel(self, area);
+        if let Some(job) = &mut self.jobs[area] {
+            job.is_cancelled = true;
+            job.waits_for = None;
+        }
+        came_up
+    }
+
+    fn round(&mut self, words: &[&[u8]], now: Vec<Shown>) -> Vec<Kind> {
+        self.follow_done_pieces(words);
+        let mut came_up = Vec::new();
+        for (device, shown) in now.into_iter().enumerate() {
+            let change = self.change(device, shown, words[device]);
+            let of_equals = equals::came_up(self, device, shown, change);
+            came_up.extend(of_equals.into_iter().map(Kind::Equals));
+            came_up.extend(suspensions::came_up(self, device, shown, change));
+            self.follow(device, shown, change);
+        }
+        came_up
+    }
+
+    /// Behind a done piece a job waits for the device of its next one.
+    fn follow_done_pieces(&mut self, words: &[&[u8]]) {
+        for (device, word) in words.iter().enumerate() {
+            if let (Shown::Request { area, start, .. }, b"d") = (self.shown[device], *word) {
+                if let Some(job) = &mut self.jobs[area] {
+                    job.waits_for = job.device_behind(start);
+                }
+            }
+        }
+    }
+
+    fn change(&self, device: usize, now: Shown, word: &[u8]) -> Change {
+        let patience = u64::from(self.plan.devices[device].patience);
+        let runs_on = word == b"p" && self.polls[device] + 1 < patience;
+        let is_request = |shown: Shown| shown.area().is_some();
+        let erasing = self.suspended[device].map(|erase| erase.area);
+        match self.shown[device] {
+            before if before == now && (runs_on || !is_request(now)) => Change::RunsOn,
+            before if before == now && word != b"d" => Change::Retries,
+            _ if erasing.is_some() && now.area() == erasing => Change::Resumes,
+            before if is_request(before) && runs_on => Change::Suspends,
+            _ => Change::Begins,
+        }
+    }
+
+    fn follow(&mut self, device: usize, now: Shown, change: Change) {
+        let polls = self.polls[device] + 1;
+        let suspended = self.suspended[device];
+        self.polls[device] = match change {
+            Change::RunsOn => polls,
+            Change::Resumes => suspended.map_or(0, |erase| erase.polls),
+            Change::Begins | Change::Retries | Change::Suspends => 0,
+        };
+        self.suspended[device] = match change {
+            Change::Resumes => None,
+            Change::Suspends => self.shown[device].area().map(|area| Suspended { area, polls }),
+            Change::RunsOn | Change::Begins | Change::Retries => suspended,
+        };
+        self.wait_no_more(device, now, change);
+        self.shown[device] = now;
+    }
+
+    /// Whose request is shown, and whoever may have got a lock, waits no more.
+    fn wait_no_more(&mut self, device: usize, now: Shown, change: Change) {
+        let is_lock_given = now == Shown::Lock && change == Change::Begins;
+        for (area, job) in self.jobs.iter_mut().enumerate() {
+            let Some(job) = job else {
+                continue;
+            };
+            let may_have_lock = job.operation.is_none() && job.waits_for == Some(device);
+            if now.area() == Some(area) || (is_lock_given && may_have_lock) {
+                job.waits_for = None;
+            }
+        }
+    }
+}
