@@ -5,7 +5,7 @@ use mathlib.Core.List.{List}
 use mathlib.Core.Path.{_≡_, refl, sym, ap, _∙_}
 use native.Mathlib.Nat.{le-refl}
 use native.Mathlib.Omega.{arith}
-use Rattle.arith.specs.Parts.{upd-other, upd-case}
+use Rattle.arith.specs.Parts.{upd-case}
 use Rattle.memory.specs.declared.DeviceAnswer.{DeviceAnswer}
 use Rattle.plan.specs.declared.records.Plan.{Plan}
 use Rattle.rules.specs.Admission.{admits}
@@ -15,7 +15,7 @@ use Rattle.rules.specs.Machine.{Core, isPending, secondHalf}
 use Rattle.rules.specs.Reachable.{Reachable}
 use Rattle.rules.specs.Requests.{running-on}
 use Rattle.rules.specs.Round.{Half, answerOf, takeAll, roundHalves}
-use Rattle.rules.specs.StepLaws.{take-case, untouched, start-case}
+use Rattle.rules.specs.StepLaws.{take-case, untouched, start-case, earlier-turns}
 
 -- the second half leaves an area that is not pending
 starts-leave-job : (p : Layout) (n : ℕ) (c : Core) (a : ℕ) → isPending (c .jobs a) ≡ false → secondHalf p n c .jobs a ≡ c .jobs a
@@ -29,17 +29,6 @@ starts-leave-job p (suc n) c a idle =
     (λ g. absurd (true≢false (sym (ready-plain p e n b .0 r .0) ∙ ap (λ i. isPending (e .jobs i)) g ∙ ap isPending ih ∙ idle)))
     (λ _. ih))
     (λ b _. ih)
-
--- and every device that has not had its turn
-starts-leave-device : (p : Layout) (n : ℕ) (c : Core) (d : ℕ) → n ≤ d → secondHalf p n c .devices d ≡ c .devices d
-unfolding secondHalf
-starts-leave-device p zero c d h = refl
-starts-leave-device p (suc n) c d h =
-    let e = secondHalf p n c in
-    let ih = starts-leave-device p n c d (omega arith) in
-    start-case (λ x. x .devices d ≡ c .devices d) p n e ih
-    (λ b _ _ _. upd-other (e .devices) n d _ (λ g. omega arith) ∙ ih)
-    (λ b _. upd-other (e .devices) n d _ (λ g. omega arith) ∙ ih)
 
 module _ (p : Plan) (ages : ℕ → ℕ) (answers : List DeviceAnswer) (h : Half) (reach : Reachable (layoutOf p) (admits p) (h .core)) where
   -- the first half leaves an area that is not pending
@@ -62,4 +51,4 @@ module _ (p : Plan) (ages : ℕ → ℕ) (answers : List DeviceAnswer) (h : Half
   pub round-leaves-device : (d : ℕ) → p .«device_count» ≤ d → roundHalves p ages answers h .core .devices d ≡ h .core .devices d
   unfolding roundHalves
   round-leaves-device d l =
-      starts-leave-device (layoutAt p ages) (p .«device_count») _ d l ∙ untouched p answers h reach (p .«device_count») d l .device
+      earlier-turns (layoutAt p ages) d _ (p .«device_count») l .device ∙ untouched p answers h reach (p .«device_count») d l .device

@@ -11,4 +11,5 @@ pub mod Demand1
 pub mod Demand2
 pub mod Demand3
 pub mod FirstCome
+pub mod GivesWay
 pub mod Program

@@ -18,6 +18,7 @@ use Rattle.program.specs.Demand1.{demand1}
 use Rattle.program.specs.Demand2.{demand2}
 use Rattle.program.specs.Demand3.{demand3}
 use Rattle.program.specs.FirstCome.{first-come}
+use Rattle.program.specs.GivesWay.{gives-way}
 use Rattle.program.specs.Kept.{to-history, to-manager, reached, run-stands}
 use Rattle.program.specs.Run.{runOf}
 use Rattle.program.specs.Stands.{withCoreAges, beside, Stands}
@@ -31,6 +32,7 @@ record Given (p : Plan) (m : Manager) (h : History) : Type 0 where
   demand2 : (a : ℕ) → Rules.Demand2 p h a
   demand3 : (a : ℕ) → Rules.Demand3 p h a
   first-come : Rules.FirstCome p h
+  gives-way : Rules.ErasesGiveWay p h
 
 -- where the history's plan and core are the manager's
 holds-here : (m : Manager) (h : History) → Given (m .plan) m (beside m h) → Holds (m .plan) m (beside m h)
@@ -46,6 +48,7 @@ holds-here m h g =
       demand2 = λ a. demand2 m h S r a (g .demand2 a);
       demand3 = λ a. demand3 m h S r a (g .demand3 a);
       first-come = first-come m h S r (g .first-come);
+      gives-way = gives-way m h S r (g .gives-way);
     }
 
 -- every accepted load and every list of calls
@@ -64,6 +67,7 @@ all-calls l e cs =
       demand2 = D .demand2;
       demand3 = D .demand3;
       first-come = D .first-come;
+      gives-way = D .gives-way;
     } in
     to-history p m h S (λ q c ages. Holds q m (withCoreAges c ages h)) (holds-here m h (to-manager p m h S (λ q c ages. Given q m (withCoreAges c ages h)) g))
 

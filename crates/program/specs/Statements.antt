@@ -18,14 +18,14 @@ use Rattle.memory.specs.declared.Task.{Task}
 use Rattle.plan.specs.Questions.{loadNumber}
 use Rattle.plan.specs.Records.{planOf}
 use Rattle.plan.specs.declared.records.Plan.{Plan}
-use Rattle.rounds.specs.Close.{waitsIn}
+use Rattle.rounds.specs.Close.{waitsIn, lentTo}
 use Rattle.rules.specs.History.{jobInfo, Call, submit, cancels, asks, round, History, start, step, run}
 use Rattle.rules.specs.Layout.{priorityOf, layoutOf}
-use Rattle.rules.specs.Machine.{isPending, isCancelling, need, holds}
+use Rattle.rules.specs.Machine.{Core, isPending, isCancelling, need, holds}
 use Rattle.rules.specs.Memory.{Memory}
 use Rattle.rules.specs.Reach.{callNumber, isRound, requestOf}
 use Rattle.rules.specs.Results.{Ends}
-use Rattle.rules.specs.Round.{answerOf as answerFor, windowPlace}
+use Rattle.rules.specs.Round.{answerOf as answerFor, takeAll, windowPlace}
 use Rattle.rules.specs.Session.{memoryOf}
 use Rattle.rules.specs.Statements as Rules
 use Rattle.segment.specs.Bytes.{joined, mappedByte, mappedBytes}
@@ -112,6 +112,17 @@ pub record FirstCome (p : Plan) (m : Manager) : Type 0 where
   pub kept : (k : Call) (a b : ℕ) → isPending (coreOf m .jobs a) ≡ true → isPending (coreOf m .jobs b) ≡ true →
       isAbove (after k m) a b ≡ isAbove m a b
 
+-- the jobs and devices of a manager when all answers of a round are in
+abbrev pub answered : Manager → List DeviceAnswer → Memory → Core
+answered m answers lent = takeAll (m .plan) answers (m .plan .«device_count») (lentTo (m .areas) (m .devices) lent) .core
+
+-- document 02, 02: "When, in a round's second half, the highest ranked ready job there [..] outranks the running erase's area and its next
+-- piece is no erase, the erase is parked with its polls kept and that piece starts."
+abbrev pub ErasesGiveWay : Plan → Manager → Type 0
+ErasesGiveWay p m =
+    (answers : List DeviceAnswer) (lent : Memory) → let k = round answers lent in answerOf k m ≡ 0 → (d : ℕ) → d < p .«device_count» →
+    Rules.GivesWay (rankedOf m) (answered m answers lent) (coreOf (after k m)) d
+
 -- All that holds of the program after a list of calls.
 pub record Holds (p : Plan) (m : Manager) (h : History) : Type 0 where
   -- "Every state reached from an accepted load passes it", the soundness test
@@ -124,6 +135,7 @@ pub record Holds (p : Plan) (m : Manager) (h : History) : Type 0 where
   pub demand2 : (a : ℕ) → Demand2 p m h a
   pub demand3 : (a : ℕ) → Demand3 p m h a
   pub first-come : FirstCome p m
+  pub gives-way : ErasesGiveWay p m
 
 -- "after every list of jobs, locks, releases, cancels, queries and rounds from an accepted load, refused ones included, whatever the chips
 -- answer and whatever image and store hold"

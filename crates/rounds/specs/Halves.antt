@@ -20,7 +20,7 @@ bare x = record { core = x .0; memory = x .1; done = λ a. [] }
 
 -- both halves of a round read no more, and so give the same of both
 module _ (p : Plan) (answers : List DeviceAnswer) where
-  take-bare : (h : Half) (n : ℕ) → both (takeAll p answers n h) ≡ both (takeAll p answers n (bare (both h)))
+  pub take-bare : (h : Half) (n : ℕ) → both (takeAll p answers n h) ≡ both (takeAll p answers n (bare (both h)))
   unfolding takeAll takeIn
   take-bare h zero = refl
   take-bare h (suc n) = ap (λ x. both (takeIn p n (answerOf answers n) (bare x))) (take-bare h n)

@@ -1,9 +1,7 @@
 -- The three demands, the order of acceptance and how an erase gives way, for every accepted load and every list of calls.
-use native.Mathlib.Omega.{arith}
 use Rattle.plan.specs.Accepted.{accepted}
 use Rattle.plan.specs.Records.{planOf}
 use Rattle.plan.specs.WellFormed.{WellFormed}
-use Rattle.rules.specs.Admission.{admits}
 use Rattle.rules.specs.ByAcceptance.{by-acceptance}
 use Rattle.rules.specs.Demand1.{demand1}
 use Rattle.rules.specs.Demand2.{demand2}
@@ -12,9 +10,8 @@ use Rattle.rules.specs.DoneKept.{done-fits}
 use Rattle.rules.specs.FirstCome.{first-come}
 use Rattle.rules.specs.GivesWay.{gives-way}
 use Rattle.rules.specs.History.{start, run}
-use Rattle.rules.specs.Layout.{layoutAt}
 use Rattle.rules.specs.PlanLaws.{plan-laws}
-use Rattle.rules.specs.Runs.{history-fits, picks-reachable}
+use Rattle.rules.specs.Runs.{history-fits}
 use Rattle.rules.specs.Statements.{AllDemands}
 
 -- every accepted load
@@ -25,15 +22,13 @@ demands l e cs =
     let fits = history-fits p (plan-laws p w) in
     let reach = fits cs .reachable in
     let done = done-fits p w (λ ds. fits ds .reachable) cs in
+    let order = first-come p (run p cs start) (fits cs .apart) in
     let first = demand1 p w (run p cs start) reach (λ a _. done a .cut) in
     record {
       demand1 = first;
       demand2 = demand2 p w (run p cs start) reach done first;
       demand3 = demand3 p (run p cs start) (fits cs);
-      first-come = first-come p (run p cs start) (fits cs .apart);
+      first-come = order;
       by-acceptance = by-acceptance p (plan-laws p w) cs;
-      gives-way = λ answers m d b polls k.
-          let f = fits cs in
-          gives-way (layoutAt p (run p cs start .ages)) (admits p) (plan-laws p w (run p cs start .ages) (f .apart)) (first-come p (run p cs start) (f .apart) .one-above) _
-          (picks-reachable p (plan-laws p w) answers m (run p cs start) f d (omega (arith, k))) d b polls;
+      gives-way = gives-way p (plan-laws p w) (run p cs start) (fits cs) order;
     }

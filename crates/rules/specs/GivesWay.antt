@@ -1,23 +1,40 @@
--- The choice of a device that has an erase, as document 02 words it: the erase's own area is not among the ready.
+-- The choice of a device that has an erase, as document 02 words it: the erase's own area is not among the ready. First at the device's
+-- turn, then over the whole second half, as the turns of the others leave it alone.
 use Prim.Native.Nat.{ℕ, _<_}
-use mathlib.Core.Bool.{Bool, true, false, not, true≢false}
+use mathlib.Core.Bool.{Bool, true, false, not, _&&_, true≢false}
 use mathlib.Core.Logic.{_≢_}
 use mathlib.Core.Path.{_≡_, refl, sym, ap, subst, _∙_}
+use native.Mathlib.Nat.{le-refl}
+use native.Mathlib.Omega.{arith}
 use borrow.Author.Tests.{ne-eqb}
 use lib.Dec.{eqb}
 use Rattle.arith.specs.Cases.{by-eqb, and-elim, and-intro}
 use Rattle.arith.specs.Parts.{upd-same}
 use Rattle.memory.specs.declared.Task.{Task}
+use Rattle.plan.specs.declared.records.Plan.{Plan}
 use Rattle.segment.specs.Segments.{isErase, isLock}
 use Rattle.state.specs.declared.DeviceState.the-variants.{Runs}
+use Rattle.state.specs.declared.Suspended.{Suspended}
 use Rattle.state.specs.declared.Suspended.the-variants as Kept
+use Rattle.rules.specs.Admission.{admits}
 use Rattle.rules.specs.Best.{ready-plain, NotBelow, Ready, best-not-below, best-ready}
 use Rattle.rules.specs.Laws.{Laws}
-use Rattle.rules.specs.Layout.{Layout}
-use Rattle.rules.specs.Machine.{Core, ready, Choice, nobody, area, best, displaces, eraseOr, eraseOrChoice, start}
+use Rattle.rules.specs.History.{History, roundOf, step}
+use Rattle.rules.specs.Layout.{Layout, layoutAt}
+use Rattle.rules.specs.Machine.{Core, ready, Choice, nobody, area, best, displaces, eraseOr, eraseOrChoice, startOver, startOn, start, secondHalf}
+use Rattle.rules.specs.RankLaws.{AgesApart}
 use Rattle.rules.specs.Reachable.{Reachable}
+use Rattle.rules.specs.Round.{roundHalves}
+use Rattle.rules.specs.Runs.{HistoryFits, picks-reachable}
 use Rattle.rules.specs.SecondHalf.{kinds}
-use Rattle.rules.specs.Statements.{readyBeside, Qualifies, Erasing, running, suspended, GivesWay}
+use Rattle.rules.specs.Statements.{FirstCome, readyBeside, Qualifies, Erasing, running, suspended, GivesWay, ErasesGiveWay}
+use Rattle.rules.specs.StepLaws.{same-ready, Stays, earlier-turns, later-turns}
+
+-- device d, which has area b's erase, has its turn
+record Turn (p : Layout) (c : Core) (d b polls : ℕ) : Type 0 where
+  gives-way : (a : ℕ) → Qualifies p c d b a → start p d c .devices d ≡ record { state = Runs a 0; suspended = Kept.Erase b polls }
+  goes-on : ((a : ℕ) → Qualifies p c d b a → ⊥) → start p d c .devices d ≡ record { state = Runs b polls; suspended = Kept.Nothing }
+  jobs : start p d c .jobs ≡ c .jobs
 
 module _ (p : Layout) (admits : ℕ → Task → Bool) (L : Laws p admits) (one : (a b : ℕ) → a ≢ b → p .outranks a b ≡ not (p .outranks b a))
     (c : Core) (r : Reachable p admits c) (d b : ℕ) where
@@ -73,7 +90,7 @@ module _ (p : Layout) (admits : ℕ → Task → Bool) (L : Laws p admits) (one 
             (k .highest i (known-ready i (choice-is-ready i e)) (and-intro (choice-is-ready i e) (ap not f)) z))))
 
     -- so the erase gives way, or goes on
-    by-choice : (q : ℕ) → start p d c ≡ eraseOrChoice d b q choice c → GivesWay p c d b q
+    by-choice : (q : ℕ) → start p d c ≡ eraseOrChoice d b q choice c → Turn p c d b q
     by-choice q e =
         record {
           gives-way = λ a k. ap (λ x. x .devices d) (e ∙ ap (λ x. eraseOrChoice d b q x c) (chosen a k)) ∙ displaced a (k .no-erase) (k .no-lock);
@@ -102,12 +119,101 @@ module _ (p : Layout) (admits : ℕ → Task → Bool) (L : Laws p admits) (one 
             test true = refl
             test false = refl
 
-  -- both ways to have an erase
-  pub gives-way : (q : ℕ) → Erasing p c d b q → GivesWay p c d b q
+  -- either way to have an erase its area is pending and needs the device
+  own-ready : (q : ℕ) → Erasing p c d b q → ready p c d b ≡ true
+  own-ready q (running e can k) = let run = rw e at (r .devices d .state) in ready-plain p c d b .1 (run .pending, run .needed)
+  own-ready q (suspended e) = let keep = rw e at (r .devices d .suspended) in ready-plain p c d b .1 (keep .pending, keep .needed)
+
+  erase-turn : (q : ℕ) → Erasing p c d b q → Turn p c d b q
   unfolding start choice
-  gives-way q (running e can k) =
-      let run = rw e at (r .devices d .state) in
-      by-choice k (ready-plain p c d b .1 (run .pending, run .needed)) q (rw (e, can, k))
-  gives-way q (suspended e) =
-      let keep = rw e at (r .devices d .suspended) in
-      by-choice (keep .erases) (ready-plain p c d b .1 (keep .pending, keep .needed)) q (rw e)
+  erase-turn q (running e can k) = by-choice k (own-ready q (running e can k)) q (rw (e, can, k))
+  erase-turn q (suspended e) = by-choice (rw e at (r .devices d .suspended) .erases) (own-ready q (suspended e)) q (rw e)
+
+-- whatever else runs goes on
+other-runs : (p : Layout) (c : Core) (d b q : ℕ) → c .devices d .state ≡ Runs b q → (Erasing p c d b q → ⊥) → start p d c .devices d ≡ c .devices d
+unfolding start
+other-runs p c d b q e other = ap (λ s. startOn p d s (c .devices d .suspended) c .devices d) e ∙ go (c .devices d .suspended) refl
+  where
+    test : (t : Bool) → (p .suspends d && isErase (c .jobs b .task .kind)) ≡ t → c .devices d .suspended ≡ Kept.Nothing →
+        startOver p d b q t c .devices d ≡ c .devices d
+    test true f k =
+        let (can, erases) = and-elim (p .suspends d) (isErase (c .jobs b .task .kind)) f in
+        absurd (other (running (λ i. record { state = e i; suspended = k i }) can erases))
+    test false f k = refl
+
+    go : (s : Suspended) → c .devices d .suspended ≡ s → startOn p d (Runs b q) s c .devices d ≡ c .devices d
+    go Kept.Nothing k = test (p .suspends d && isErase (c .jobs b .task .kind)) refl k
+    go (Kept.Erase a kept) k = refl
+
+module _ (p : Layout) (d : ℕ) where
+  -- the same jobs are ready in both
+  abbrev ReadyIn : Core → Core → Type 0
+  ReadyIn u v = (a : ℕ) → ready p u d a ≡ true → (ready p v d a ≡ true) × (v .jobs a ≡ u .jobs a)
+
+  ready-in : {x y : Core} → Stays p d x y → ReadyIn x y × ReadyIn y x
+  ready-in {x} {y} s = (
+    λ a k. let e = s .waiting a k in (same-ready p d x y a e k, e),
+    λ a k. let e = sym (s .pending a (ready-plain p y d a .0 k .0)) in (same-ready p d y x a e k, e),
+  )
+
+  still-qualifies : {u v : Core} → ReadyIn u v → ReadyIn v u → (b a : ℕ) → Qualifies p u d b a → Qualifies p v d b a
+  still-qualifies {u} {v} f g b a k =
+      let is-ready = and-elim (ready p u d a) (not (eqb a b)) (k .is-ready) in
+      let same = f a (is-ready .0) in
+      record {
+        known = k .known;
+        is-ready = and-intro (same .0) (is-ready .1);
+        highest = λ i l h. let other = and-elim (ready p v d i) (not (eqb i b)) h in k .highest i l (and-intro (g i (other .0) .0) (other .1));
+        above = k .above;
+        no-erase = ap (λ j. isErase (j .task .kind)) (same .1) ∙ k .no-erase;
+        no-lock = ap (λ j. isLock (j .task .kind)) (same .1) ∙ k .no-lock;
+      }
+
+  still-erasing : {u v : Core} → v .devices d ≡ u .devices d → (b q : ℕ) → (v .jobs b ≡ u .jobs b) → Erasing p u d b q → Erasing p v d b q
+  still-erasing e b q j (running f can k) = running (e ∙ f) can (ap (λ x. isErase (x .task .kind)) j ∙ k)
+  still-erasing e b q j (suspended f) = suspended (e ∙ f)
+
+-- the whole second half, of the devices below n
+module _ (p : Layout) (admits : ℕ → Task → Bool) (L : Laws p admits) (one : (a b : ℕ) → a ≢ b → p .outranks a b ≡ not (p .outranks b a)) (c : Core)
+    (r : Reachable p admits c) (d : ℕ) (turn : Reachable p admits (secondHalf p d c)) (n : ℕ) (l : d < n) where
+  -- the devices before it have had their turn
+  atTurn : Core
+  atTurn = secondHalf p d c
+
+  to : Stays p d c atTurn
+  unfolding atTurn
+  to = earlier-turns p d c d (le-refl d)
+
+  from : Stays p d (start p d atTurn) (secondHalf p n c)
+  unfolding atTurn
+  from = later-turns p d c n l
+
+  picks : (b q : ℕ) → Erasing p c d b q → Turn p atTurn d b q
+  unfolding atTurn
+  picks b q e = erase-turn p admits L one atTurn turn d b q (still-erasing p d (to .device) b q (to .waiting b (own-ready p admits L one c r d b q e)) e)
+
+  half-gives-way : GivesWay p c (secondHalf p n c) d
+  unfolding atTurn
+  half-gives-way =
+      let both = ready-in p d to in
+      record {
+        gives-way = λ b q a e k. from .device ∙ picks b q e .gives-way a (still-qualifies p d (both .0) (both .1) b a k);
+        goes-on = λ b q e none. from .device ∙ picks b q e .goes-on (λ a k. none a (still-qualifies p d (both .1) (both .0) b a k));
+        jobs = λ b q a e k.
+            let same = ap (λ f. f a) (picks b q e .jobs) ∙ to .waiting a k in
+            from .waiting a (same-ready p d c (start p d atTurn) a same k) ∙ same;
+        runs-on = λ b q e other.
+            from .device
+            ∙ other-runs p atTurn d b q (ap (λ y. y .state) (to .device) ∙ e)
+            (λ f. other (still-erasing p d (sym (to .device)) b q (both .1 b (own-ready p admits L one atTurn turn d b q f) .1) f))
+            ∙ to .device;
+      }
+
+-- every accepted round of a history
+pub gives-way : (p : Plan) (L : (ages : ℕ → ℕ) → AgesApart ages → Laws (layoutAt p ages) (admits p)) (h : History) → HistoryFits p h → FirstCome p h →
+    ErasesGiveWay p h
+unfolding step roundOf roundHalves secondHalf
+gives-way p L h f order answers m e d l =
+    let reach = picks-reachable p L answers m h f in
+    rw e
+    (half-gives-way (layoutAt p (h .ages)) (admits p) (L (h .ages) (f .apart)) (order .one-above) _ (reach 0 (omega arith)) d (reach d (omega arith)) (p .«device_count») l)

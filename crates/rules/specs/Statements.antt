@@ -23,8 +23,7 @@ use Rattle.state.specs.declared.Suspended.the-variants as Kept
 use Rattle.rules.specs.Admission.{jobNumber, cancelNumber, roundNumber}
 use Rattle.rules.specs.History.{Call, submit, releases, cancels, asks, round, noTally, History, start, lent, step, run}
 use Rattle.rules.specs.Layout.{Layout, priorityOf, layoutOf, layoutAt, mostBelow}
-use Rattle.rules.specs.Machine as Machine
-use Rattle.rules.specs.Machine.{Core, isPending, isCancelling, need, ready, secondHalf, holds}
+use Rattle.rules.specs.Machine.{Core, isPending, isCancelling, need, ready, holds}
 use Rattle.rules.specs.Memory.{Memory}
 use Rattle.rules.specs.Reach.{callNumber, isRound, requestOf, ImageActed, imageValue, StoreActed, storeValue}
 use Rattle.rules.specs.Results.{Ends}
@@ -149,12 +148,23 @@ pub data Erasing (p : Layout) (c : Core) (d b polls : ℕ) : Type 0 where
       Erasing p c d b polls
   suspended : c .devices d ≡ record { state = Free; suspended = Kept.Erase b polls } → Erasing p c d b polls
 
--- "the erase is parked with its polls kept and that piece starts"; "After each piece the parked erase resumes, unless the highest ranked
--- ready job again qualifies."
-pub record GivesWay (p : Layout) (c : Core) (d b polls : ℕ) : Type 0 where
-  pub gives-way : (a : ℕ) → Qualifies p c d b a → Machine.start p d c .devices d ≡ record { state = Runs a 0; suspended = Kept.Erase b polls }
-  pub goes-on : ((a : ℕ) → Qualifies p c d b a → ⊥) → Machine.start p d c .devices d ≡ record { state = Runs b polls; suspended = Kept.Nothing }
-  pub jobs : Machine.start p d c .jobs ≡ c .jobs
+-- device d "in a round's second half": from core c, when all answers are in, to core e
+pub record GivesWay (p : Layout) (c e : Core) (d : ℕ) : Type 0 where
+  -- "the erase is parked with its polls kept and that piece starts"
+  pub gives-way : (b polls a : ℕ) → Erasing p c d b polls → Qualifies p c d b a → e .devices d ≡ record { state = Runs a 0; suspended = Kept.Erase b polls }
+  -- "After each piece the parked erase resumes, unless the highest ranked ready job again qualifies."
+  pub goes-on : (b polls : ℕ) → Erasing p c d b polls → ((a : ℕ) → Qualifies p c d b a → ⊥) →
+      e .devices d ≡ record { state = Runs b polls; suspended = Kept.Nothing }
+  -- "no lock is given meanwhile": no job there changes
+  pub jobs : (b polls a : ℕ) → Erasing p c d b polls → ready p c d a ≡ true → e .jobs a ≡ c .jobs a
+  -- "One erase is parked per chip", and on other chips nothing gives way: whatever else runs goes on
+  pub runs-on : (b polls : ℕ) → c .devices d .state ≡ Runs b polls → (Erasing p c d b polls → ⊥) → e .devices d ≡ c .devices d
+
+-- in every accepted round, on every device
+abbrev pub ErasesGiveWay : Plan → History → Type 0
+ErasesGiveWay p h =
+    (answers : List DeviceAnswer) (m : Memory) → roundNumber p (m .image) (m .store) ≡ 0 → (d : ℕ) → d < p .«device_count» →
+    GivesWay (layoutAt p (h .ages)) (takeAll p answers (p .«device_count») (lent m h) .core) (step p (round answers m) h .core) d
 
 -- The calls of a list, numbered from n on: the number of the one that accepted each area's latest job. Before call k, at history h, they
 -- are `at`.
@@ -183,11 +193,7 @@ pub record Demands (l : List ℕ) (cs : List Call) : Type 0 where
   pub by-acceptance : let p = planOf l in let h = run p cs start in
       (a b : ℕ) → a ≢ b → isPending (h .core .jobs a) ≡ true → isPending (h .core .jobs b) ≡ true → priorityOf p a ≡ priorityOf p b →
       isAbove p h a b ≡ ltb (acceptedAt p cs a) (acceptedAt p cs b)
-  -- "in a round's second half": device d picks when those before it have
-  pub gives-way : let p = planOf l in let h = run p cs start in let ranks = layoutAt p (h .ages) in
-      (answers : List DeviceAnswer) (m : Memory) (d b polls : ℕ) → d < p .«device_count» →
-      let c = secondHalf ranks d (takeAll p answers (p .«device_count») (lent m h) .core) in
-      Erasing ranks c d b polls → GivesWay ranks c d b polls
+  pub gives-way : ErasesGiveWay (planOf l) (run (planOf l) cs start)
 
 abbrev pub AllDemands : Type 0
 AllDemands = (l : List ℕ) → loadNumber l ≡ 0 → (cs : List Call) → Demands l cs

@@ -1,12 +1,14 @@
 -- What one step of a round does to one area, and what it leaves alone.
-use Prim.Native.Nat.{ℕ, zero, suc, _+_, _≤_}
-use mathlib.Core.Bool.{Bool, true, false, _&&_}
+use Prim.Native.Nat.{ℕ, zero, suc, _+_, _≤_, _<_}
+use mathlib.Core.Bool.{Bool, true, false, false≢true, _&&_}
 use mathlib.Core.List.{List, [], _∷_, _++_}
-use mathlib.Core.Path.{_≡_, refl, sym, ap, _∙_}
+use mathlib.Core.Logic.{_≢_}
+use mathlib.Core.Path.{_≡_, refl, sym, ap, subst, _∙_}
 use native.Mathlib.Omega.{arith}
 use lib.Dec.{ltb, eqb}
+use Rattle.arith.specs.Bounded.{below-suc}
 use Rattle.arith.specs.Cases.{pick, by-eqb}
-use Rattle.arith.specs.Parts.{upd, upd-same, upd-other, same-or}
+use Rattle.arith.specs.Parts.{upd, upd-same, upd-other, upd-case, same-or}
 use Rattle.memory.specs.declared.DeviceAnswer.{DeviceAnswer}
 use Rattle.plan.specs.declared.records.Plan.{Plan}
 use Rattle.segment.specs.Segments.{isLock, isErase}
@@ -18,9 +20,9 @@ use Rattle.state.specs.declared.Suspended.the-variants as Kept
 use Rattle.state.specs.declared.DeviceState.the-variants.{Free, Runs, LockedFor}
 use Rattle.state.specs.declared.Job.{Job}
 use Rattle.rules.specs.Admission.{admits}
-use Rattle.rules.specs.Best.{Ready, best-ready}
+use Rattle.rules.specs.Best.{ready-plain, Ready, best-ready}
 use Rattle.rules.specs.Layout.{Layout, layoutOf}
-use Rattle.rules.specs.Machine.{Core, Verdict, goesOn, finished, differs, failed, due, jobFailed, jobFinished, jobDiffers, takeRunning, takeOn, takeAnswer, withBoth, ended, ready, Choice, nobody, area, best, startJob, startChoice, displaces, eraseOr, eraseOrChoice, startOver, startOn, start}
+use Rattle.rules.specs.Machine.{Core, Verdict, goesOn, finished, differs, failed, due, jobFailed, jobFinished, jobDiffers, takeRunning, takeOn, takeAnswer, withBoth, isPending, need, ended, ready, Choice, nobody, area, best, startJob, startChoice, displaces, eraseOr, eraseOrChoice, startOver, startOn, start, secondHalf}
 use Rattle.rules.specs.Reachable.{Reachable}
 use Rattle.rules.specs.Requests.{running-on}
 use Rattle.rules.specs.Round.{Half, answerOf, verdictOn, addDone, doneOn, takeIn, takeAll}
@@ -173,6 +175,56 @@ module _ (P : Core → Type 0) (p : Layout) (d : ℕ) (c : Core) where
       go (LockedFor a) s e = stays
       go (Runs b q) Kept.Nothing e = over b q (rw e tt) (p .suspends d && isErase (c .jobs b .task .kind))
       go (Runs b q) (Kept.Erase a k) e = stays
+
+-- ready goes by the job alone
+pub same-ready : (p : Layout) (d : ℕ) (x y : Core) (a : ℕ) → y .jobs a ≡ x .jobs a → ready p x d a ≡ true → ready p y d a ≡ true
+unfolding ready
+same-ready p d x y a e k = rw e k
+
+-- from core x to core y device d stays, and so do the jobs that are ready there; no job becomes pending
+pub record Stays (p : Layout) (d : ℕ) (x y : Core) : Type 0 where
+  pub device : y .devices d ≡ x .devices d
+  pub waiting : (a : ℕ) → ready p x d a ≡ true → y .jobs a ≡ x .jobs a
+  pub pending : (a : ℕ) → isPending (y .jobs a) ≡ true → y .jobs a ≡ x .jobs a
+
+module _ (p : Layout) (d : ℕ) where
+  stays : (x : Core) → Stays p d x x
+  stays x = record { device = refl; waiting = λ a _. refl; pending = λ a _. refl }
+
+  then : {x y z : Core} → Stays p d x y → Stays p d y z → Stays p d x z
+  then {x} {y} s t =
+      record {
+        device = t .device ∙ s .device;
+        waiting = λ a k. let e = s .waiting a k in t .waiting a (same-ready p d x y a e k) ∙ e;
+        pending = λ a k. let e = t .pending a k in e ∙ s .pending a (ap isPending (sym e) ∙ k);
+      }
+
+  -- another device has its turn
+  other-turn : (n : ℕ) (x : Core) → n ≢ d → Stays p d x (start p n x)
+  other-turn n x apart =
+      start-case (Stays p d x) p n x (stays x)
+      (λ b _ k _. record {
+        device = upd-other (x .devices) n d _ apart;
+        waiting = λ a w. upd-case (λ j. j ≡ x .jobs a) (x .jobs) b a _
+            (λ g. absurd (apart (sym (ready-plain p x n b .0 k .1) ∙ ap (λ i. need p i (x .jobs i)) g ∙ ready-plain p x d a .0 w .1)))
+            (λ _. refl);
+        pending = λ a. upd-case (λ j. isPending j ≡ true → j ≡ x .jobs a) (x .jobs) b a _ (λ _ i. absurd (false≢true i)) (λ _ _. refl);
+      })
+      (λ y _. record { device = upd-other (x .devices) n d y apart; waiting = λ a _. refl; pending = λ a _. refl })
+
+  -- so the devices before it and behind it leave it alone
+  pub earlier-turns : (c : Core) (n : ℕ) → n ≤ d → Stays p d c (secondHalf p n c)
+  unfolding secondHalf
+  earlier-turns c zero l = stays c
+  earlier-turns c (suc n) l = then (earlier-turns c n (omega arith)) (other-turn n (secondHalf p n c) (λ e. omega arith))
+
+  pub later-turns : (c : Core) (n : ℕ) → d < n → Stays p d (start p d (secondHalf p d c)) (secondHalf p n c)
+  unfolding secondHalf
+  later-turns c zero l = absurd (omega arith)
+  later-turns c (suc n) l =
+      below-suc d n l
+      (λ e. subst (λ k. Stays p d (start p k (secondHalf p k c)) (secondHalf p (suc n) c)) (sym e) (stays _))
+      (λ k. then (later-turns c n k) (other-turn n (secondHalf p n c) (λ e. omega arith)))
 
 -- a call is accepted, or refused
 pub accept-case : {A : Type 0} (P : A → Type 0) (n : ℕ) {x y : A} → (n ≡ 0 → P x) → P y → P (pick (eqb n 0) x y)

@@ -1,0 +1,21 @@
+-- How an erase gives way: what the manager's device comes to is what the history's does.
+use Prim.Native.Nat.{ℕ}
+use mathlib.Core.Path.{sym, ap, subst₂, _∙_}
+use Rattle.manager.specs.Calls.{coreOf, rankedOf}
+use Rattle.manager.specs.declared.Manager.{Manager}
+use Rattle.rounds.specs.Halves.{take-bare}
+use Rattle.rules.specs.History.{round, History, lent}
+use Rattle.rules.specs.Statements as Rules
+use Rattle.program.specs.Answers.{Reached, answer-is}
+use Rattle.program.specs.Kept.{call-kept}
+use Rattle.program.specs.Stands.{agesOf, beside, Stands}
+use Rattle.program.specs.Statements.{ErasesGiveWay}
+
+pub gives-way : (m : Manager) (h : History) → Stands (m .plan) m (beside m h) → Reached (m .plan) (coreOf m) (agesOf m) →
+    Rules.ErasesGiveWay (m .plan) (beside m h) → ErasesGiveWay (m .plan) m
+gives-way m h S r G answers given e d l =
+    let k = round answers given in
+    subst₂ (λ c n. Rules.GivesWay (rankedOf m) c n d)
+    (ap (λ x. x .0) (take-bare (m .plan) answers (lent given (beside m h)) (m .plan .«device_count»)))
+    (sym (call-kept m h S r k .core))
+    (G answers given (sym (answer-is m r k h) ∙ e) d l)
