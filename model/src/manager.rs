@@ -257,6 +257,8 @@ impl Manager {
 
     /// What the area's job needs next: its piece at the processed length or the lock of its device.
     /// Nothing behind the last piece, or if there never was a job.
+    // Inlined, so that a caller which asks for the device alone does not pay for the piece.
+    #[inline(always)]
     fn need(&self, area: usize) -> Option<Need> {
         let state = &self.areas[area];
         let job = state.job?;

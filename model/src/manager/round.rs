@@ -4,7 +4,7 @@
 
 use super::{DeviceState, Manager, Need, Request, Wait};
 use crate::admission;
-use crate::jobs::{Answer, JobResult, Operation};
+use crate::jobs::{Answer, JobResult, JobType, Operation};
 use crate::plan::MOST_AREAS;
 use crate::segments::index;
 use std::ops::Range;
@@ -186,11 +186,13 @@ impl Manager {
     /// Does the highest ranked ready job outrank the erase's area, and is its next piece no erase? "A
     /// lock request has no piece and parks nothing."
     fn qualifies(&self, ready: Option<usize>, erase: &Request) -> bool {
-        ready.is_some_and(|area| match self.need(area) {
-            Some(Need::Piece(operation, _)) => {
-                self.ranks_above(area, erase.area) && operation != Operation::Erase
-            }
-            Some(Need::Lock(_)) | None => false,
+        ready.is_some_and(|area| {
+            let job = self.areas[area].job;
+            let is_other = job.is_some_and(|job| match job.job_type {
+                JobType::Operation(operation) => operation != Operation::Erase,
+                JobType::LockRequest => false,
+            });
+            is_other && self.ranks_above(area, erase.area)
         })
     }
 
