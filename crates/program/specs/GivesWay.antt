@@ -1,5 +1,4 @@
 -- How an erase gives way: what the manager's device comes to is what the history's does.
-use Prim.Native.Nat.{ℕ}
 use mathlib.Core.Path.{sym, ap, subst₂, _∙_}
 use Rattle.manager.specs.Calls.{coreOf, rankedOf}
 use Rattle.manager.specs.declared.Manager.{Manager}

@@ -221,13 +221,6 @@ waitOn p a (Runs b polls) = behind p a b
 abbrev pub waitOf : Layout → Core → ℕ → Wait
 waitOf p c a = waitOn p a (c .devices (need p a (c .jobs a)) .state)
 
-abbrev pub isOwn : Wait → Bool
-isOwn own = true
-isOwn above = false
-isOwn below = false
-isOwn locked = false
-isOwn none = false
-
 -- does a device run area a's request, or keep it suspended?
 abbrev pub runsFor : ℕ → DeviceState → Bool
 runsFor a Free = false

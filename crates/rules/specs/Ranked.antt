@@ -14,7 +14,7 @@ use Rattle.state.specs.declared.Suspended.the-variants as Kept
 use Rattle.rules.specs.Close.{TallyFits}
 use Rattle.rules.specs.History.{Tally}
 use Rattle.rules.specs.Layout.{Layout, priorityOf, layoutOf, ranked, layoutAt}
-use Rattle.rules.specs.Machine.{Core, isPending, need, Wait, none, behind, waitOn, cancel}
+use Rattle.rules.specs.Machine.{Core, isPending, need, Wait, none, behind, waitOn}
 use Rattle.rules.specs.Potential.{toCome, ifBelow, lowLeft, laterLeft, leftOf, left-idle}
 use Rattle.rules.specs.RankLaws.{AgesApart, ranks-kept}
 use Rattle.rules.specs.Ranks.{agesAfter, ranksAbove}
@@ -26,12 +26,7 @@ lowWait p a Kept.Nothing = none
 lowWait p a (Kept.Erase b q) = behind p a b
 
 module _ (p : Layout) (r s : ℕ → ℕ → Bool) where
-  -- a cancel does not depend on ranks
-  pub cancel-ranked : (a : ℕ) (c : Core) → cancel (ranked r p) a c ≡ cancel (ranked s p) a c
-  unfolding cancel
-  cancel-ranked a c = refl
-
-  -- nor that a state is reachable
+  -- that a state is reachable does not depend on ranks
   state-ranked : (jobs : ℕ → Job) (d : ℕ) (x : DeviceState) → StateFits (ranked r p) jobs d x → StateFits (ranked s p) jobs d x
   state-ranked jobs d Free f = tt
   state-ranked jobs d (LockedFor a) f = tt

@@ -54,43 +54,40 @@ resumed = job Erase 0 0 16 ∷ round Pending ∷ round Pending ∷ job Read 1 25
 abbrev behind : List History.Call
 behind = job Erase 0 0 16 ∷ round Pending ∷ job Read 1 256 4 ∷ round Pending ∷ job Erase 2 512 16 ∷ round Pending ∷ round Pending ∷ round Done ∷ round Pending ∷ []
 
--- the whole tallies of the runs, and the bounds
-tallies : let p = Records.planOf planT in let s = History.run p slow History.start in let w = History.run p late History.start in
+-- the whole tallies of the runs, the bounds, and the one device of each plan
+tallies :
+    (let p = Records.planOf planT in let s = History.run p slow History.start in let w = History.run p late History.start in
     (s .tallies 0 ≡ record { rounds = 5; own = 4; above = 0; below = 0; locked = 0; byRound = true })
     × (ownMost p s 0 ≡ 4)
     × (w .tallies 1 ≡ record { rounds = 1; own = 0; above = 0; below = 1; locked = 0; byRound = false })
     × (belowMost p w 1 ≡ 1)
-unfolding Bounded.every Bounded.sum FirstNo.firstNo Multiples.multiple Tables.table Parts.upd Number.numberAt Records.deviceAt Records.areaAt Records.granularityAt Records.subAreaAt Records.isRecord Records.recordsUpTo Records.recordsFrom Records.deviceCount Records.areasStart Records.areaCount Records.subAreasStart Records.subAreaCount Records.planOf Questions.sizeIn Mapping.find Mapping.mapped Segments.burstOrUnit Segments.segmentAt Segments.cut Segments.segmentsFrom Segments.spansAfter Segments.spans Segments.ownSum Segments.belowSum Segments.ownBound Segments.belowBound Ranks.agesAfter Ranks.rankAbove Layout.layoutOf Machine.jobFailed Machine.jobFinished Machine.takeAnswer Machine.ready Machine.best Machine.start Machine.secondHalf Machine.behind Machine.begin Admission.isInside Admission.isAligned Admission.fitsWindow Admission.jobQuestions Admission.imageFits Admission.storeReaches Admission.jobNumber Admission.roundNumber Round.takeIn Round.takeAll Round.roundHalves History.start History.roundOf History.submitted History.step History.run
-tallies = (refl, refl, refl, refl)
-
-suspending-tallies : let p = Records.planOf (planE 83 3) in let s = History.run p resumed History.start in let w = History.run p behind History.start in
+    × (p .«device_count» ≡ 1)
+    × (Layout.layoutOf p .suspends 0 ≡ false))
+    × (let p = Records.planOf (planE 83 3) in let s = History.run p resumed History.start in let w = History.run p behind History.start in
     (s .tallies 0 ≡ record { rounds = 5; own = 3; above = 1; below = 0; locked = 0; byRound = true })
     × (ownMost p s 0 ≡ 3)
     × (w .tallies 2 ≡ record { rounds = 4; own = 0; above = 0; below = 4; locked = 0; byRound = false })
     × (belowMost p w 2 ≡ 4)
+    × (p .«device_count» ≡ 1)
+    × (Layout.layoutOf p .suspends 0 ≡ true))
 unfolding Bounded.every Bounded.sum FirstNo.firstNo Multiples.multiple Tables.table Parts.upd Number.numberAt Records.deviceAt Records.areaAt Records.granularityAt Records.subAreaAt Records.isRecord Records.recordsUpTo Records.recordsFrom Records.deviceCount Records.areasStart Records.areaCount Records.subAreasStart Records.subAreaCount Records.planOf Questions.sizeIn Mapping.find Mapping.mapped Segments.burstOrUnit Segments.segmentAt Segments.cut Segments.segmentsFrom Segments.spansAfter Segments.spans Segments.ownSum Segments.belowSum Segments.ownBound Segments.belowBound Ranks.agesAfter Ranks.rankAbove Layout.layoutOf Machine.jobFailed Machine.jobFinished Machine.takeAnswer Machine.ready Machine.best Machine.start Machine.secondHalf Machine.behind Machine.begin Admission.isInside Admission.isAligned Admission.fitsWindow Admission.jobQuestions Admission.imageFits Admission.storeReaches Admission.jobNumber Admission.roundNumber Round.takeIn Round.takeAll Round.roundHalves History.start History.roundOf History.submitted History.step History.run
-suspending-tallies = (refl, refl, refl, refl)
+tallies = ((refl, refl, refl, refl, refl, refl), (refl, refl, refl, refl, refl, refl))
 
--- the one device of each plan
-chips : let t = Records.planOf planT in let e = Records.planOf (planE 83 3) in
-    (t .«device_count» ≡ 1) × (Layout.layoutOf t .suspends 0 ≡ false) × (e .«device_count» ≡ 1) × (Layout.layoutOf e .suspends 0 ≡ true)
-unfolding Bounded.every Bounded.sum FirstNo.firstNo Multiples.multiple Tables.table Parts.upd Number.numberAt Records.deviceAt Records.areaAt Records.granularityAt Records.subAreaAt Records.isRecord Records.recordsUpTo Records.recordsFrom Records.deviceCount Records.areasStart Records.areaCount Records.subAreasStart Records.subAreaCount Records.planOf Questions.sizeIn Mapping.find Mapping.mapped Segments.burstOrUnit Segments.segmentAt Segments.cut Segments.segmentsFrom Segments.spansAfter Segments.spans Segments.ownSum Segments.belowSum Segments.ownBound Segments.belowBound Ranks.agesAfter Ranks.rankAbove Layout.layoutOf Machine.jobFailed Machine.jobFinished Machine.takeAnswer Machine.ready Machine.best Machine.start Machine.secondHalf Machine.behind Machine.begin Admission.isInside Admission.isAligned Admission.fitsWindow Admission.jobQuestions Admission.imageFits Admission.storeReaches Admission.jobNumber Admission.roundNumber Round.takeIn Round.takeAll Round.roundHalves History.start History.roundOf History.submitted History.step History.run
-chips = (refl, refl, refl, refl)
-
+-- a plan of one device
 alone : (p : Plan) (can : Bool) → p .«device_count» ≡ 1 → Layout.layoutOf p .suspends 0 ≡ can → (d : ℕ) → d < p .«device_count» → Layout.layoutOf p .suspends d ≡ can
 alone p can n e d l = below-suc d 0 (rw n at l) (λ z. rw z e) (λ z. absurd (omega arith))
 
 -- own and below are as large as their bounds
 pub bounds-reached : BoundsReached
 bounds-reached false =
-    let (s, own, w, below) = tallies in
-    let all = alone (Records.planOf planT) false (chips .0) (chips .1) in (
-      record { plan = planT; chips = all; calls = slow; area = 0; accepted = examples .0; some = rw s (omega arith); reached = rw (s, own) },
-      record { plan = planT; chips = all; calls = late; area = 1; accepted = examples .0; some = rw w (omega arith); reached = rw (w, below) },
+    let (s, own, w, below, one, can) = tallies .0 in
+    let chips = alone (Records.planOf planT) false one can in (
+      record { plan = planT; chips = chips; calls = slow; area = 0; accepted = examples .0; some = rw s (omega arith); reached = rw (s, own) },
+      record { plan = planT; chips = chips; calls = late; area = 1; accepted = examples .0; some = rw w (omega arith); reached = rw (w, below) },
     )
 bounds-reached true =
-    let (s, own, w, below) = suspending-tallies in
-    let all = alone (Records.planOf (planE 83 3)) true (chips .2) (chips .3) in (
-      record { plan = planE 83 3; chips = all; calls = resumed; area = 0; accepted = examples .1; some = rw s (omega arith); reached = rw (s, own) },
-      record { plan = planE 83 3; chips = all; calls = behind; area = 2; accepted = examples .1; some = rw w (omega arith); reached = rw (w, below) },
+    let (s, own, w, below, one, can) = tallies .1 in
+    let chips = alone (Records.planOf (planE 83 3)) true one can in (
+      record { plan = planE 83 3; chips = chips; calls = resumed; area = 0; accepted = examples .1; some = rw s (omega arith); reached = rw (s, own) },
+      record { plan = planE 83 3; chips = chips; calls = behind; area = 2; accepted = examples .1; some = rw w (omega arith); reached = rw (w, below) },
     )

@@ -2,7 +2,7 @@
 use Prim.Native.Nat.{ℕ, _<_, _≤_}
 use mathlib.Core.Bool.{true, false≢true}
 use mathlib.Core.List.{List, [], _∷_}
-use mathlib.Core.Path.{_≡_, refl, subst}
+use mathlib.Core.Path.{_≡_, refl}
 use native.Mathlib.Omega.{arith}
 use lib.Dec.{eqb}
 use Rattle.arith.specs.Cases.{pick, by-eqb}
@@ -19,8 +19,8 @@ use Rattle.rules.specs.Laws.{Laws}
 use Rattle.rules.specs.Layout.{layoutOf, layoutAt}
 use Rattle.rules.specs.RankLaws.{AgesApart, ages-apart}
 use Rattle.rules.specs.Ranks.{agesAfter}
-use Rattle.rules.specs.Ranked.{cancel-ranked, reranked, tally-ranked, waits-kept}
-use Rattle.rules.specs.Machine.{Core, isPending, begin, secondHalf}
+use Rattle.rules.specs.Ranked.{reranked, tally-ranked, waits-kept}
+use Rattle.rules.specs.Machine.{Core, isPending, cancel, begin, secondHalf}
 use Rattle.rules.specs.Memory.{Memory}
 use Rattle.rules.specs.Potential.{left-idle}
 use Rattle.rules.specs.Reachable.{Reachable, Passes, passed}
@@ -122,7 +122,7 @@ module _ (p : Plan) (L : (ages : ℕ → ℕ) → AgesApart ages → Laws (layou
 
   -- every call
   step-fits : (x : Call) (h : History) → Fits h → Fits (step p x h)
-  unfolding step
+  unfolding step cancel
   step-fits (submit a t) h f = accepted-fits (jobNumber p (h .core) a t) _ h (submitted-fits a t h f) f
   step-fits (releases a address n) h f =
       accepted-fits (releaseNumber p (h .core) a address n) _ h
@@ -132,8 +132,7 @@ module _ (p : Plan) (L : (ages : ℕ → ℕ) → AgesApart ages → Laws (layou
   step-fits (cancels a) h f =
       accepted-fits (cancelNumber p (h .core) a) _ h
       (λ e. passes-fits h _ f
-      (subst (Passes (layoutAt p (h .ages)) (admits p) 0 0 (h .core)) (cancel-ranked (layoutOf p) _ (layoutOf p .outranks) a (h .core))
-      (cancel-passes (layoutAt p (h .ages)) (admits p) (h .core) (at (h .ages) (h .core) (f .reachable)) a (cancel-admitted p (h .core) a e))))
+      (cancel-passes (layoutAt p (h .ages)) (admits p) (h .core) (at (h .ages) (h .core) (f .reachable)) a (cancel-admitted p (h .core) a e)))
       f
   step-fits (asks q) h f = f
   step-fits (round answers m) h f = accepted-fits (roundNumber p (m .image) (m .store)) _ h (λ _. round-fits answers m h f) f

@@ -107,16 +107,20 @@ module _ (p : Layout) (admits : ℕ → Task → Bool) (L : Laws p admits) (n : 
     erase-no-lock Types.BlankCheck e = refl
     erase-no-lock Types.Lock e = absurd (false≢true e)
 
+    -- so the device can run it
+    runs : DeviceFits p (c .jobs) n (record { state = Runs b q; suspended = Kept.Nothing })
+    runs =
+        record {
+          state = record { pending = f .pending; no-lock = erase-no-lock (c .jobs b .task .kind) (f .erases); needed = f .needed; few = f .few };
+          suspended = tt;
+          apart = tt;
+        }
+
     -- where nothing runs it resumes
     erase-resumes : c .devices n .state ≡ Free → c .devices n .suspended ≡ Kept.Erase b q →
         Started p admits (p .devices) (suc n) c (withStates n (Runs b q) Kept.Nothing c)
     erase-resumes e k =
-        start-device (record { state = Runs b q; suspended = Kept.Nothing }) tt
-        (record {
-          state = record { pending = f .pending; no-lock = erase-no-lock (c .jobs b .task .kind) (f .erases); needed = f .needed; few = f .few };
-          suspended = tt;
-          apart = tt;
-        })
+        start-device (record { state = Runs b q; suspended = Kept.Nothing }) tt runs
         (λ a _ _. record {
           left = rw (e, k)
               (by-behind (λ w. AtMost (record { own = dueLeft w (p .limit n - (q + 0)) (p .limit n) .own; below = dueLeft w (p .limit n - (q + 0)) (p .limit n) .below + 0 })
@@ -131,12 +135,7 @@ module _ (p : Layout) (admits : ℕ → Task → Bool) (L : Laws p admits) (n : 
     erase-goes-on : c .devices n .state ≡ Runs b q → c .devices n .suspended ≡ Kept.Nothing →
         Started p admits (p .devices) (suc n) c (withStates n (Runs b q) Kept.Nothing c)
     erase-goes-on e k =
-        start-device (record { state = Runs b q; suspended = Kept.Nothing }) tt
-        (record {
-          state = record { pending = f .pending; no-lock = erase-no-lock (c .jobs b .task .kind) (f .erases); needed = f .needed; few = f .few };
-          suspended = tt;
-          apart = tt;
-        })
+        start-device (record { state = Runs b q; suspended = Kept.Nothing }) tt runs
         (λ a _ _. record { left = rw (e, k) (omega arith); held = rw (e, k) (λ h. h) })
 
     -- another area starts over it

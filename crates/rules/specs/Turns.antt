@@ -16,9 +16,16 @@ use Rattle.state.specs.declared.Job.{Job}
 use Rattle.state.specs.declared.Suspended.{Suspended}
 use Rattle.state.specs.declared.Suspended.the-variants as Kept
 use Rattle.rules.specs.Layout.{Layout}
-use Rattle.rules.specs.Machine.{Core, doing, isPendingStatus, isCancelling, isPending, need, Wait, behind, isOwn, waitOn, runsFor, keptFor, holds}
+use Rattle.rules.specs.Machine.{Core, doing, isPendingStatus, isCancelling, isPending, need, Wait, own, above, below, locked, none, behind, waitOn, runsFor, keptFor, holds}
 use Rattle.rules.specs.Potential.{AtMost, toCome, closesOn, dueLeft, dueLeftOn, tryLeft, limitOf, fewer-closes, due-falls, left-idle}
 use Rattle.rules.specs.Reachable.{Running, Suspending, StateFits, SuspendedFits, DeviceFits, Reachable, Follows, FollowsAt, Passes}
+
+abbrev isOwn : Wait → Bool
+isOwn own = true
+isOwn above = false
+isOwn below = false
+isOwn locked = false
+isOwn none = false
 
 -- A change on the device that an area needs, where wait w with m closes to see becomes v with n: it leaves the due try no
 -- more, and the area's own request runs on.
