@@ -18,7 +18,7 @@ use Rattle.program.specs.Demand1.{demand1}
 use Rattle.program.specs.Demand2.{demand2}
 use Rattle.program.specs.Demand3.{demand3}
 use Rattle.program.specs.FirstCome.{first-come}
-use Rattle.program.specs.GivesWay.{gives-way}
+use Rattle.program.specs.GivesWay.{gives-way, suspended}
 use Rattle.program.specs.Kept.{to-history, to-manager, reached, run-stands}
 use Rattle.program.specs.Run.{runOf}
 use Rattle.program.specs.Stands.{withCoreAges, beside, Stands}
@@ -33,6 +33,7 @@ record Given (p : Plan) (m : Manager) (h : History) : Type 0 where
   demand3 : (a : ℕ) → Rules.Demand3 p h a
   first-come : Rules.FirstCome p h
   gives-way : Rules.ErasesGiveWay p h
+  suspended : Rules.SuspendedNotRunning p h
 
 -- where the history's plan and core are the manager's
 holds-here : (m : Manager) (h : History) → Given (m .plan) m (beside m h) → Holds (m .plan) m (beside m h)
@@ -49,6 +50,7 @@ holds-here m h g =
       demand3 = λ a. demand3 m h S r a (g .demand3 a);
       first-come = first-come m h S r (g .first-come);
       gives-way = gives-way m h S r (g .gives-way);
+      suspended = suspended m h (g .suspended);
     }
 
 -- every accepted load and every list of calls
@@ -68,6 +70,7 @@ all-calls l e cs =
       demand3 = D .demand3;
       first-come = D .first-come;
       gives-way = D .gives-way;
+      suspended = D .suspended;
     } in
     to-history p m h S (λ q c ages. Holds q m (withCoreAges c ages h)) (holds-here m h (to-manager p m h S (λ q c ages. Given q m (withCoreAges c ages h)) g))
 

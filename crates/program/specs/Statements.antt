@@ -21,8 +21,9 @@ use Rattle.plan.specs.declared.records.Plan.{Plan}
 use Rattle.rounds.specs.Close.{waitsIn, lentTo}
 use Rattle.rules.specs.History.{jobInfo, Call, submit, cancels, asks, round, History, start, step, run}
 use Rattle.rules.specs.Layout.{priorityOf, layoutOf}
-use Rattle.rules.specs.Machine.{Core, isPending, isCancelling, need, holds}
+use Rattle.rules.specs.Machine.{Core, isPending, isCancelling, need, above, waitOf, holds}
 use Rattle.rules.specs.Memory.{Memory}
+use Rattle.rules.specs.Queries.{noRequest}
 use Rattle.rules.specs.Reach.{callNumber, isRound, requestOf}
 use Rattle.rules.specs.Results.{Ends}
 use Rattle.rules.specs.Round.{answerOf as answerFor, takeAll, windowPlace}
@@ -32,6 +33,7 @@ use Rattle.segment.specs.Bytes.{joined, mappedByte, mappedBytes}
 use Rattle.segment.specs.Segments.{isLock}
 use Rattle.state.specs.Fresh.{noWaits}
 use Rattle.state.specs.declared.DeviceState.the-variants.{Runs}
+use Rattle.state.specs.declared.Suspended.the-variants.{Erase}
 use Rattle.program.specs.Run.{answerOf, after, memoryAfter, runOf}
 use Rattle.program.specs.Stands.{stuck, beside, Stands}
 
@@ -123,6 +125,14 @@ ErasesGiveWay p m =
     (answers : List DeviceAnswer) (lent : Memory) → let k = round answers lent in answerOf k m ≡ 0 → (d : ℕ) → d < p .«device_count» →
     Rules.GivesWay (rankedOf m) (answered m answers lent) (coreOf (after k m)) d
 
+-- "The wait counts, in the wait book too, and job info take a parked erase as not running": area b's; what runs in its place outranks it
+pub record NotRunning (m : Manager) (b : ℕ) : Type 0 where
+  pub waits : waitOf (rankedOf m) (coreOf m) b ≡ above
+  pub request : infoOf m b .request ≡ noRequest
+
+abbrev pub SuspendedNotRunning : Manager → Type 0
+SuspendedNotRunning m = (d b polls : ℕ) → coreOf m .devices d .suspended ≡ Erase b polls → NotRunning m b
+
 -- All that holds of the program after a list of calls.
 pub record Holds (p : Plan) (m : Manager) (h : History) : Type 0 where
   -- "Every state reached from an accepted load passes it", the soundness test
@@ -136,6 +146,7 @@ pub record Holds (p : Plan) (m : Manager) (h : History) : Type 0 where
   pub demand3 : (a : ℕ) → Demand3 p m h a
   pub first-come : FirstCome p m
   pub gives-way : ErasesGiveWay p m
+  pub suspended : SuspendedNotRunning m
 
 -- "after every list of jobs, locks, releases, cancels, queries and rounds from an accepted load, refused ones included, whatever the chips
 -- answer and whatever image and store hold"

@@ -6,7 +6,7 @@ use mathlib.Core.Path.{_≡_, refl, sym, ap, _∙_, subst}
 use native.Mathlib.Nat.{le-refl}
 use native.Mathlib.Omega.{arith}
 use borrow.Author.Tests.{le-ltb, eq-eqb}
-use Rattle.arith.specs.Cases.{pick}
+use Rattle.arith.specs.Cases.{pick, or-left, or-right}
 use Rattle.arith.specs.Parts.{upd, upd-same, upd-other, upd-case, same-or}
 use Rattle.memory.specs.declared.Task.{Task}
 use Rattle.segment.specs.Segments.{isLock, segmentsFrom, spans, ownSum, belowSum, ownBound, belowBound}
@@ -25,7 +25,7 @@ use Rattle.rules.specs.Machine.{begun, ended, cancelled, cancelIf, cance
 use Rattle.rules.specs.Potential.{Left, AtMost, toCome, limitOf, laterLeft, leftBy, dueLeftOn, leftOf, due-most}
 use Rattle.rules.specs.Reachable.{Running, Suspending, SuspendedFits, JobFits, Reachable, FollowsAt, Passes}
 use Rattle.rules.specs.SegmentSums.{own-next, below-first}
-use Rattle.rules.specs.Turns.{or-left, or-right, state-no-worse, ended-follows, same-follows, device-keeps, Turn, device-passes}
+use Rattle.rules.specs.Turns.{state-no-worse, ended-follows, same-follows, device-keeps, Turn, device-passes}
 
 module _ (p : Layout) (admits : ℕ → Task → Bool) (c : Core) (r : Reachable p admits c) where
   -- an area whose job a call on another area leaves as it is

@@ -13,6 +13,7 @@ use Rattle.rules.specs.History.{start, run}
 use Rattle.rules.specs.PlanLaws.{plan-laws}
 use Rattle.rules.specs.Runs.{history-fits}
 use Rattle.rules.specs.Statements.{AllDemands}
+use Rattle.rules.specs.Suspended.{suspended-waits}
 
 -- every accepted load
 pub demands : AllDemands
@@ -31,4 +32,5 @@ demands l e cs =
       first-come = order;
       by-acceptance = by-acceptance p (plan-laws p w) cs;
       gives-way = gives-way p (plan-laws p w) (run p cs start) (fits cs) order;
+      suspended = suspended-waits p (plan-laws p w) cs;
     }

@@ -13,7 +13,8 @@ use Rattle.arith.specs.Parts.{upd-same}
 use Rattle.memory.specs.declared.Task.{Task}
 use Rattle.plan.specs.declared.records.Plan.{Plan}
 use Rattle.segment.specs.Segments.{isErase, isLock}
-use Rattle.state.specs.declared.DeviceState.the-variants.{Runs}
+use Rattle.state.specs.declared.DeviceState.{DeviceState}
+use Rattle.state.specs.declared.DeviceState.the-variants.{Free, Runs, LockedFor}
 use Rattle.state.specs.declared.Suspended.{Suspended}
 use Rattle.state.specs.declared.Suspended.the-variants as Kept
 use Rattle.rules.specs.Admission.{admits}
@@ -30,11 +31,19 @@ use Rattle.rules.specs.SecondHalf.{kinds}
 use Rattle.rules.specs.Statements.{FirstCome, readyBeside, Qualifies, Erasing, running, suspended, GivesWay, ErasesGiveWay}
 use Rattle.rules.specs.StepLaws.{same-ready, Stays, earlier-turns, later-turns}
 
+-- what runs over a suspended erase outranks its area
+abbrev pub Over : Layout → DeviceState → Suspended → Type 0
+Over p x Kept.Nothing = Unit {0}
+Over p (Runs a q) (Kept.Erase b k) = p .outranks a b ≡ true
+Over p Free (Kept.Erase b k) = ⊥
+Over p (LockedFor a) (Kept.Erase b k) = ⊥
+
 -- device d, which has area b's erase, has its turn
-record Turn (p : Layout) (c : Core) (d b polls : ℕ) : Type 0 where
+pub record Turn (p : Layout) (c : Core) (d b polls : ℕ) : Type 0 where
   gives-way : (a : ℕ) → Qualifies p c d b a → start p d c .devices d ≡ record { state = Runs a 0; suspended = Kept.Erase b polls }
   goes-on : ((a : ℕ) → Qualifies p c d b a → ⊥) → start p d c .devices d ≡ record { state = Runs b polls; suspended = Kept.Nothing }
   jobs : start p d c .jobs ≡ c .jobs
+  pub over : let x = start p d c .devices d in Over p (x .state) (x .suspended)
 
 module _ (p : Layout) (admits : ℕ → Task → Bool) (L : Laws p admits) (one : (a b : ℕ) → a ≢ b → p .outranks a b ≡ not (p .outranks b a))
     (c : Core) (r : Reachable p admits c) (d b : ℕ) where
@@ -96,6 +105,7 @@ module _ (p : Layout) (admits : ℕ → Task → Bool) (L : Laws p admits) (one 
           gives-way = λ a k. ap (λ x. x .devices d) (e ∙ ap (λ x. eraseOrChoice d b q x c) (chosen a k)) ∙ displaced a (k .no-erase) (k .no-lock);
           goes-on = λ none. ap (λ x. x .devices d) e ∙ kept none choice refl;
           jobs = ap (λ x. x .jobs) e ∙ same-jobs choice;
+          over = subst (λ x. Over p (x .devices d .state) (x .devices d .suspended)) (sym e) (above-it choice refl);
         }
       where
         displaced : (a : ℕ) → isErase (c .jobs a .task .kind) ≡ false → isLock (c .jobs a .task .kind) ≡ false →
@@ -111,6 +121,14 @@ module _ (p : Layout) (admits : ℕ → Task → Bool) (L : Laws p admits) (one 
             test true g = absurd (none a (qualifies a f g))
             test false g = upd-same (c .devices) d _
 
+        above-it : (x : Choice) → choice ≡ x → let y = eraseOrChoice d b q x c .devices d in Over p (y .state) (y .suspended)
+        above-it nobody f = rw upd-same tt
+        above-it (area a) f = test (displaces (c .jobs a .task .kind)) refl
+          where
+            test : (t : Bool) → displaces (c .jobs a .task .kind) ≡ t → let y = eraseOr d b q a t c .devices d in Over p (y .state) (y .suspended)
+            test true g = rw upd-same (qualifies a f g .above)
+            test false g = rw upd-same tt
+
         same-jobs : (x : Choice) → eraseOrChoice d b q x c .jobs ≡ c .jobs
         same-jobs nobody = refl
         same-jobs (area a) = test (displaces (c .jobs a .task .kind))
@@ -124,7 +142,7 @@ module _ (p : Layout) (admits : ℕ → Task → Bool) (L : Laws p admits) (one 
   own-ready q (running e can k) = let run = rw e at (r .devices d .state) in ready-plain p c d b .1 (run .pending, run .needed)
   own-ready q (suspended e) = let keep = rw e at (r .devices d .suspended) in ready-plain p c d b .1 (keep .pending, keep .needed)
 
-  erase-turn : (q : ℕ) → Erasing p c d b q → Turn p c d b q
+  pub erase-turn : (q : ℕ) → Erasing p c d b q → Turn p c d b q
   unfolding start choice
   erase-turn q (running e can k) = by-choice k (own-ready q (running e can k)) q (rw (e, can, k))
   erase-turn q (suspended e) = by-choice (rw e at (r .devices d .suspended) .erases) (own-ready q (suspended e)) q (rw e)

@@ -45,6 +45,7 @@ pub mod EndsSo
 pub mod Demand2
 pub mod FirstCome
 pub mod GivesWay
+pub mod Suspended
 pub mod ByAcceptance
 pub mod Demands
 pub mod Reached

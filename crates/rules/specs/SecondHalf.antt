@@ -5,7 +5,7 @@ use mathlib.Core.Path.{_≡_, refl, sym, ap, _∙_}
 use native.Mathlib.Omega.{arith}
 use borrow.Author.Tests.{lt-ltb, eq-eqb, ne-eqb}
 use lib.Dec.{eqb}
-use Rattle.arith.specs.Cases.{pick, and-elim}
+use Rattle.arith.specs.Cases.{pick, and-elim, or-left, or-right, or-elim}
 use Rattle.memory.specs.declared.JobType.{JobType}
 use Rattle.memory.specs.declared.JobType.the-variants as Types
 use Rattle.rules.specs.FirstHalf.{PolledOn}
@@ -27,7 +27,7 @@ use Rattle.rules.specs.Machine.{Core, doing, withDevice, withBoth, withS
 use Rattle.rules.specs.Machine.{ready, Choice, best, startJob, startChoice, startOn, start, secondHalf}
 use Rattle.rules.specs.Potential.{AtMost, dueLeft, ifBelow, by-behind}
 use Rattle.rules.specs.Reachable.{Running, Suspending, DeviceFits, Reachable, Passes, passed, passes-on}
-use Rattle.rules.specs.Turns.{NoWorse, NoWorseOn, or-left, or-right, or-elim, state-no-worse, ended-follows, same-passes, Turn, device-passes, both-passes}
+use Rattle.rules.specs.Turns.{NoWorse, NoWorseOn, state-no-worse, ended-follows, same-passes, Turn, device-passes, both-passes}
 
 -- what displaces an erase is no erase, and no lock request
 pub kinds : (k : JobType) → displaces k ≡ true → (isErase k ≡ false) × (isLock k ≡ false)

@@ -20,11 +20,14 @@ use Rattle.segment.specs.Bytes.{joined, mappedByte, mappedBytes}
 use Rattle.segment.specs.Segments.{isErase, isLock, ownBound, belowBound}
 use Rattle.state.specs.declared.DeviceState.the-variants.{Free, Runs}
 use Rattle.state.specs.declared.Suspended.the-variants as Kept
+use Rattle.state.specs.declared.Waits.{Waits}
 use Rattle.rules.specs.Admission.{jobNumber, cancelNumber, roundNumber}
 use Rattle.rules.specs.History.{Call, submit, releases, cancels, asks, round, noTally, History, start, lent, step, run}
 use Rattle.rules.specs.Layout.{Layout, priorityOf, layoutOf, layoutAt, mostBelow}
-use Rattle.rules.specs.Machine.{Core, isPending, isCancelling, need, ready, holds}
+use Rattle.rules.specs.Machine as Machine
+use Rattle.rules.specs.Machine.{Core, isPending, isCancelling, need, ready, waitOf, holds}
 use Rattle.rules.specs.Memory.{Memory}
+use Rattle.rules.specs.Queries.{noRequest, jobInfoOf}
 use Rattle.rules.specs.Reach.{callNumber, isRound, requestOf, ImageActed, imageValue, StoreActed, storeValue}
 use Rattle.rules.specs.Results.{Ends}
 use Rattle.rules.specs.Round.{answerOf, takeAll, windowPlace}
@@ -166,6 +169,16 @@ ErasesGiveWay p h =
     (answers : List DeviceAnswer) (m : Memory) → roundNumber p (m .image) (m .store) ≡ 0 → (d : ℕ) → d < p .«device_count» →
     GivesWay (layoutAt p (h .ages)) (takeAll p answers (p .«device_count») (lent m h) .core) (step p (round answers m) h .core) d
 
+-- "The wait counts, in the wait book too, and job info take a parked erase as not running": area b's; what runs in its place outranks it
+pub record NotRunning (p : Plan) (h : History) (b : ℕ) : Type 0 where
+  pub waits : waitOf (layoutAt p (h .ages)) (h .core) b ≡ Machine.above
+  -- "Request fields are 0 unless the area's request runs"
+  pub request : (w : Waits) → jobInfoOf p (h .core) w b .request ≡ noRequest
+
+-- every suspended erase
+abbrev pub SuspendedNotRunning : Plan → History → Type 0
+SuspendedNotRunning p h = (d b polls : ℕ) → h .core .devices d .suspended ≡ Kept.Erase b polls → NotRunning p h b
+
 -- The calls of a list, numbered from n on: the number of the one that accepted each area's latest job. Before call k, at history h, they
 -- are `at`.
 abbrev pub noted : Plan → ℕ → Call → History → (ℕ → ℕ) → ℕ → ℕ
@@ -194,6 +207,7 @@ pub record Demands (l : List ℕ) (cs : List Call) : Type 0 where
       (a b : ℕ) → a ≢ b → isPending (h .core .jobs a) ≡ true → isPending (h .core .jobs b) ≡ true → priorityOf p a ≡ priorityOf p b →
       isAbove p h a b ≡ ltb (acceptedAt p cs a) (acceptedAt p cs b)
   pub gives-way : ErasesGiveWay (planOf l) (run (planOf l) cs start)
+  pub suspended : SuspendedNotRunning (planOf l) (run (planOf l) cs start)
 
 abbrev pub AllDemands : Type 0
 AllDemands = (l : List ℕ) → loadNumber l ≡ 0 → (cs : List Call) → Demands l cs

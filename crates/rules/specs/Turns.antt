@@ -1,10 +1,10 @@
 -- What a device does at its turn, in either half of a round or in a call.
 use Prim.Native.Nat.{ℕ, _≤_}
-use mathlib.Core.Bool.{Bool, true, false, true≢false, _||_}
+use mathlib.Core.Bool.{Bool, true, false, true≢false}
 use mathlib.Core.Path.{_≡_, refl, sym, ap, subst, _∙_}
 use native.Mathlib.Nat.{le-refl}
 use native.Mathlib.Omega.{arith}
-use Rattle.arith.specs.Cases.{by-bool, by-eqb}
+use Rattle.arith.specs.Cases.{by-bool, by-eqb, or-left, or-right, or-elim}
 use Rattle.arith.specs.Parts.{upd, upd-same, upd-other, upd-case, same-or}
 use Rattle.memory.specs.declared.JobStatus.{JobStatus}
 use Rattle.memory.specs.declared.JobStatus.the-variants.{Idle, Pending, Cancelling}
@@ -37,16 +37,6 @@ pub record NoWorse (limit : ℕ) (w v : Wait) (m n : ℕ) : Type 0 where
 pub record NoWorseOn (p : Layout) (a limit t u : ℕ) (x y : Device) : Type 0 where
   pub left : AtMost (dueLeftOn p u a limit y) (dueLeftOn p t a limit x)
   pub held : holds a x ≡ true → holds a y ≡ true
-
-pub or-left : (s t : Bool) → s ≡ true → (s || t) ≡ true
-or-left s t e = rw e
-
-pub or-right : (s t : Bool) → t ≡ true → (s || t) ≡ true
-or-right s t e = by-bool s (λ f. rw f) (λ f. rw (f, e))
-
-pub or-elim : {P : Type 0} (s t : Bool) → (s || t) ≡ true → (s ≡ true → P) → (t ≡ true → P) → P
-or-elim true t h f g = f refl
-or-elim false t h f g = g h
 
 -- whether a wait is own does not depend on ranks
 pub own-runs : (p : Layout) (a : ℕ) (x : DeviceState) → isOwn (waitOn p a x) ≡ runsFor a x
