@@ -1,5 +1,5 @@
 -- What runs over a suspended erase outranks its area, after every list of calls: so the area counts above, and its request does not run.
-use Prim.Native.Nat.{ℕ, zero, suc, _+_, _≤_, _<_}
+use Prim.Native.Nat.{ℕ, zero, suc, _+_, _<_}
 use mathlib.Core.Bool.{Bool, true, false, not, _&&_}
 use mathlib.Core.List.{List, [], _∷_}
 use mathlib.Core.Logic.{_≢_}
@@ -25,16 +25,16 @@ use Rattle.rules.specs.GivesWay.{Over, erase-turn}
 use Rattle.rules.specs.History.{Call, submit, releases, cancels, asks, round, History, lent, start as beginning, roundOf, submitted, step, run}
 use Rattle.rules.specs.Laws.{Laws}
 use Rattle.rules.specs.Layout.{Layout, layoutOf, layoutAt}
-use Rattle.rules.specs.Machine.{Core, Verdict, goesOn, finished, differs, failed, isPending, need, takeRunning, takeOn, takeAnswer, firstHalf, Choice, nobody, area, best, startJob, startChoice, startOver, startOn, start, secondHalf, behind, holds, cancelIf, cancel, begin, release}
+use Rattle.rules.specs.Machine.{Core, Verdict, goesOn, finished, differs, failed, need, takeRunning, takeOn, takeAnswer, firstHalf, Choice, nobody, area, best, startJob, startChoice, startOver, startOn, start, secondHalf, behind, holds, cancelIf, cancel, begin, release}
 use Rattle.rules.specs.Memory.{Memory}
 use Rattle.rules.specs.Queries.{jobInfoOf}
 use Rattle.rules.specs.Ranked.{reranked}
 use Rattle.rules.specs.RankLaws.{AgesApart}
 use Rattle.rules.specs.Reachable.{Running, Suspending, Apart, Reachable, need-known}
-use Rattle.rules.specs.Round.{takeAll, roundHalves}
+use Rattle.rules.specs.Round.{roundHalves}
 use Rattle.rules.specs.RoundCore.{verdictAt, take-ranked-core}
 use Rattle.rules.specs.Runs.{HistoryFits, picks-reachable, history-fits}
-use Rattle.rules.specs.Statements.{isAbove, running, suspended, NotRunning, SuspendedNotRunning}
+use Rattle.rules.specs.Statements.{running, suspended, NotRunning, SuspendedNotRunning}
 use Rattle.rules.specs.StepLaws.{accept-case, earlier-turns, later-turns}
 
 -- between the halves of a round what ran over the erase may have ended
