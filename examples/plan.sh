@@ -11,7 +11,7 @@ le() {
     done
 }
 
-# device START LENGTH PATIENCE [MARK]: DS for a chip that can suspend
+# device START LENGTH PATIENCE [MARK]: DS for a chip that can suspend, DF for one that only clears bits and can suspend too
 device() {
     printf '%s' "${4:-DV}"
     le "$1" 4; le "$2" 4; le "$3" 2

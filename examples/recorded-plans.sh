@@ -46,6 +46,21 @@ plan_both() {
     sub_area 4 1 80 16 16 4 4 1 4 1 1 0
 }
 
+# a device of each mark: areas 0 and 1 on the one that only clears bits, area 2 on the one that can only suspend, area 3 on the third
+plan_marks() {
+    device 0 32 3 DF
+    device 32 32 3 DS
+    device 64 32 3
+    area 1 0 0 8
+    area 5 256 8 8
+    area 1 512 16 8
+    area 1 768 24 8
+    sub_area 0 0 0 16 16 4 4 1 8 1 1 0
+    sub_area 1 0 16 16 16 4 4 1 8 1 1 0
+    sub_area 2 1 32 16 16 4 4 1 8 2 1 0
+    sub_area 3 2 64 16 16 4 4 1 8 2 1 0
+}
+
 # keep FILE: writes standard input to the file, or compares the two
 keep() {
     if [ "$mode" = --check ]; then
@@ -64,6 +79,7 @@ plan_t 64 2 1 5 | keep ../crates/bench_line_length/data/plan.bin
 plan_t 64 2 3 3 | keep ../crates/bench_equals/data/plan.bin
 plan_four | keep ../crates/bench_devices/data/plan.bin
 plan_both | keep ../crates/bench_suspends/data/plan.bin
+plan_marks | keep ../crates/bench_clears/data/plan.bin
 plan_t 64 0 1 5 | keep ../crates/bench_refused/data/plan.bin
 plan_t 65537 2 1 5 | keep ../crates/bench_sum/data/plan.bin
 head -c 4097 /dev/zero | keep ../crates/bench_long/data/plan.bin

@@ -1,17 +1,19 @@
 //! What sessions tried, told from their lines and what they printed: shows, and lets tests assert,
 //! that no kind of line, refusal, answer or result went untried, nor the order of acceptance, nor the
-//! erases that give way.
+//! erases that give way, nor the writes on chips that only clear bits.
 
+mod clearing;
 mod equals;
 mod follower;
 mod suspensions;
 
+pub use clearing::Clearing;
 pub use equals::Equals;
 pub use suspensions::Suspension;
 
-use crate::plan::{self, Plan};
+use crate::plan::{self, Chip, Plan};
 use crate::plans::{equals_meet, priority_count};
-use crate::script::Script;
+use crate::script::{Bytes, Script};
 use crate::session::{BENCH_SUM_LIMIT, LINE_LIMIT, PLAN_LIMIT};
 use follower::Follower;
 use std::collections::BTreeMap;
@@ -27,7 +29,12 @@ pub enum Kind {
     Equals(Equals),
     /// Which marks the plan's devices have.
     Marks(Marks),
+    /// All three.
+    AllMarks,
     Suspension(Suspension),
+    Clearing(Clearing),
+    /// What the image held at the start of a session on a plan that is taken.
+    Image(Image),
     /// A line of this type answered with this number; 0 is accepted.
     Line(u8, u8),
     /// Info of a job with this result.
@@ -62,6 +69,14 @@ pub enum Marks {
     NoneSuspends,
     SomeSuspend,
     AllSuspend,
+}
+
+#[derive(Clone, Copy, Debug, PartialEq, Eq, PartialOrd, Ord)]
+pub enum Image {
+    /// All 255.
+    Blank,
+    /// Bytes of any value.
+    Drawn,
 }
 
 #[derive(Clone, Copy, Debug, PartialEq, Eq, PartialOrd, Ord)]
@@ -120,11 +135,15 @@ pub fn all_kinds() -> Vec<Kind> {
         Kind::Ignored(Device::Free),
         Kind::Ignored(Device::Locked),
         Kind::Busy,
+        Kind::AllMarks,
+        Kind::Image(Image::Blank),
+        Kind::Image(Image::Drawn),
     ];
     kinds.extend([Priorities::One, Priorities::Two, Priorities::More].map(Kind::Priorities));
     kinds.extend(Equals::ALL.map(Kind::Equals));
     kinds.extend([Marks::NoneSuspends, Marks::SomeSuspend, Marks::AllSuspend].map(Kind::Marks));
     kinds.extend(Suspension::ALL.map(Kind::Suspension));
+    kinds.extend(Clearing::ALL.map(Kind::Clearing));
     kinds.extend((1..=8).map(|number| Kind::Plan(PlanAnswer::Refused(number))));
     kinds.extend((0..=3).map(Kind::Result));
     kinds.extend([Count::Own, Count::Above, Count::Below, Count::Locked].map(Kind::Wait));
@@ -211,14 +230,15 @@ impl Coverage {
         }
     }
 
-    /// What a session on a plan that is taken tried of the order of acceptance and of erases that
-    /// give way.
+    /// What a session on a plan that is taken tried of the order of acceptance, of erases that give
+    /// way and of writes on chips that only clear bits.
     fn add_jobs(&mut self, script: &Script, output: &[u8]) {
         let plan = plan::load(&script.plan).expect("the plan is taken");
-        self.add_kind(Kind::Marks(marks(&plan)));
-        if equals_meet(&plan) {
-            self.add_kind(Kind::Priorities(priorities(&plan)));
-        }
+        self.add_plan(&plan);
+        self.add_kind(Kind::Image(match script.lending.bytes {
+            Bytes::Bench => Image::Blank,
+            Bytes::Drawn(_) => Image::Drawn,
+        }));
         let mut follower = Follower::of(&plan);
         for (line, answer) in script.lines.iter().zip(output.split(|byte| *byte == b'\n')) {
             if answer != b"?" {
@@ -228,6 +248,17 @@ impl Coverage {
         }
         if follower.fewest_acceptances() > 300 {
             self.add_kind(Kind::Busy);
+        }
+    }
+
+    fn add_plan(&mut self, plan: &Plan) {
+        self.add_kind(Kind::Marks(marks(plan)));
+        let has = |chip: Chip| plan.devices.iter().any(|device| device.chip == chip);
+        if Chip::ALL.into_iter().all(has) {
+            self.add_kind(Kind::AllMarks);
+        }
+        if equals_meet(plan) {
+            self.add_kind(Kind::Priorities(priorities(plan)));
         }
     }
 
@@ -305,7 +336,7 @@ fn priorities(plan: &Plan) -> Priorities {
 }
 
 fn marks(plan: &Plan) -> Marks {
-    let can_suspend = |device: &plan::Device| device.can_suspend;
+    let can_suspend = |device: &plan::Device| device.chip.can_suspend();
     match (plan.devices.iter().any(can_suspend), plan.devices.iter().all(can_suspend)) {
         (false, _) => Marks::NoneSuspends,
         (true, false) => Marks::SomeSuspend,

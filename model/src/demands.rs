@@ -4,10 +4,12 @@
 //! the other. What the book says is not taken from the manager: it has a state of its own and is
 //! asked before the manager is called.
 
+mod clearing;
 mod memory;
 mod suspensions;
 mod tally;
 
+pub use clearing::Clearing;
 pub use suspensions::Suspensions;
 pub use tally::Tally;
 
@@ -19,6 +21,7 @@ use crate::plan::Plan;
 use crate::plans::encode;
 use crate::sessions::{Memory, Step};
 use crate::wait_book::{Entry, Fate, Finished, Numbers, Outcome, Station, Task, WaitBook, Work};
+use clearing::Round;
 
 /// A manager and a wait book that meet the same calls.
 pub struct Trial {
@@ -61,6 +64,10 @@ impl Trial {
 
     pub fn book(&self) -> &WaitBook {
         &self.book
+    }
+
+    pub fn image(&self) -> &[u8] {
+        &self.image
     }
 
     /// Takes a step and checks every demand.
@@ -154,15 +161,22 @@ impl Trial {
         let before = self.manager.clone();
         let (mut image, mut store) = (image, store);
         let number = self.manager.round(answers, &mut image, &mut store);
-        self.book = book;
+        let book_before = std::mem::replace(&mut self.book, book);
         tally.add_call(&Call::Round(answers), number);
         ensure(number == owed, || format!("number {number}, the book has {owed}"))?;
         ensure(image == owed_image, || "demand 1: the image is not as owed".into())?;
         ensure(store == owed_store, || "demand 1: the store is not as owed".into())?;
         ensure(number == 0 || self.manager == before, || "demand 1: the manager changed".into())?;
+        tally.clearing.add_round(&self.round_from(&book_before, &image), &fates);
         memory::give_back(&mut self.image, &image);
         memory::give_back(&mut self.store, &store);
         Ok(fates)
+    }
+
+    /// The round from this book to the one of now, which left this image, before memory is given back.
+    fn round_from<'a>(&'a self, before: &'a WaitBook, left: &'a [u8]) -> Round<'a> {
+        let Trial { plan, book: after, image, store, .. } = self;
+        Round { plan, before, after, image, store, left }
     }
 
     /// The result of a job that this step ended, from what became of its request.
@@ -237,7 +251,7 @@ impl Trial {
 
     /// Demand 2: the result is that of the rules; the requests answered done, joined in order, are
     /// the mapped bytes of the range up to the processed length, each once; on success that is the
-    /// whole range. A lock request has none.
+    /// whole range. A lock request has none. What each of them leaves, `round` has seen to.
     fn check_demand_2(&self, area: usize, entry: &Entry, info: &JobInfo) -> Result<(), Failure> {
         let owed = self.results[area].number();
         ensure(info.result == owed, || format!("demand 2: result {}, not {owed}", info.result))?;

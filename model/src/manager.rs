@@ -1,4 +1,4 @@
-//! The memory access manager of document 01 with Req 01 and 02 of document 02: jobs, locks,
+//! The memory access manager of document 01 with Req 01 to 03 of document 02: jobs, locks,
 //! releases, cancels, rounds and queries over a loaded plan.
 //!
 //! Every call answers with the number of the first question answered "no", 0 if there is none; a

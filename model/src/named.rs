@@ -3,8 +3,9 @@
 //!
 //! The limits are written out here, not taken from the model.
 
-use crate::plan::{Area, Device, Plan, SubArea};
-use crate::plan::{AREA_MARK, DEVICE_MARK, SUB_AREA_MARK, SUSPENDING_DEVICE_MARK};
+use crate::plan::{Area, Chip, Device, Plan, SubArea};
+use crate::plan::{AREA_MARK, CLEARING_DEVICE_MARK, DEVICE_MARK};
+use crate::plan::{SUB_AREA_MARK, SUSPENDING_DEVICE_MARK};
 use crate::plans::{encode, encode_records, largest, plan_t, raw_records, regular, RawRecord};
 
 pub struct Named {
@@ -21,7 +22,9 @@ pub fn all() -> Vec<Named> {
         question_1_records(),
         question_1_order(),
         question_1_marks(),
+        question_1_clearing_marks(),
         suspending_devices(),
+        clearing_devices(),
         question_2(),
         question_3(),
         question_4_ends(),
@@ -92,7 +95,7 @@ fn joined(lengths: &[u32]) -> Vec<Device> {
     let mut start = 0u32;
     let mut devices = Vec::new();
     for &length in lengths {
-        devices.push(Device { start, length, patience: 2, can_suspend: false });
+        devices.push(Device { start, length, patience: 2, chip: Chip::Plain });
         start = start.wrapping_add(length);
     }
     devices
@@ -171,7 +174,6 @@ pub fn question_1_marks() -> Vec<Named> {
         of_bytes("device mark 44 53 on the last of four devices", 0, largest(3)),
         of_bytes("device mark 44 52", 1, t(0, [0x44, 0x52])),
         of_bytes("device mark 44 54", 1, t(0, [0x44, 0x54])),
-        of_bytes("device mark 44 46", 1, t(0, [0x44, 0x46])),
         of_bytes("device mark 44 55", 1, t(0, [0x44, 0x55])),
         of_bytes("device mark 53 44", 1, t(0, [0x53, 0x44])),
         of_bytes("device mark 43 53", 1, t(0, [0x43, 0x53])),
@@ -188,15 +190,65 @@ pub fn question_1_marks() -> Vec<Named> {
 pub fn suspending_devices() -> Vec<Named> {
     vec![
         t("a device that can suspend, patience 0", 3, |p| {
-            (p.devices[0].can_suspend, p.devices[0].patience) = (true, 0);
+            (p.devices[0].chip, p.devices[0].patience) = (Chip::Suspending, 0);
         }),
-        two_devices("the second of two can suspend", 0, |p| p.devices[1].can_suspend = true),
+        two_devices("the second of two can suspend", 0, |p| p.devices[1].chip = Chip::Suspending),
         two_devices("the second can suspend and starts one more", 3, |p| {
-            (p.devices[1].can_suspend, p.devices[1].start) = (true, 33);
+            (p.devices[1].chip, p.devices[1].start) = (Chip::Suspending, 33);
         }),
         t("five devices that can suspend", 2, |p| {
             p.devices = joined(&[64, 1, 1, 1, 1]);
-            p.devices.iter_mut().for_each(|device| device.can_suspend = true);
+            p.devices.iter_mut().for_each(|device| device.chip = Chip::Suspending);
+        }),
+    ]
+}
+
+/// The mark of a device that only clears bits, and its neighbours.
+pub fn question_1_clearing_marks() -> Vec<Named> {
+    let t = |record: usize, mark: [u8; 2]| marked(&plan_t(), record, mark);
+    let largest = |record: usize| marked(&largest(), record, [0x44, 0x46]);
+    vec![
+        of_bytes("device mark 44 46", 0, t(0, [0x44, 0x46])),
+        of_bytes("device mark 44 46 on the first of four devices", 0, largest(0)),
+        of_bytes("device mark 44 46 on the last of four devices", 0, largest(3)),
+        of_bytes("device mark 44 45", 1, t(0, [0x44, 0x45])),
+        of_bytes("device mark 44 47", 1, t(0, [0x44, 0x47])),
+        of_bytes("device mark 46 44", 1, t(0, [0x46, 0x44])),
+        of_bytes("device mark 45 46", 1, t(0, [0x45, 0x46])),
+        of_bytes("area mark 41 46", 1, t(2, [0x41, 0x46])),
+        of_bytes("sub-area mark 53 46", 1, t(4, [0x53, 0x46])),
+        of_bytes("area with mark 44 46", 1, t(1, CLEARING_DEVICE_MARK)),
+        of_bytes("sub-area with mark 44 46", 1, t(3, CLEARING_DEVICE_MARK)),
+        of_bytes("mark 44 46 and nothing else", 1, CLEARING_DEVICE_MARK.to_vec()),
+    ]
+}
+
+/// The chips of the first devices.
+fn set_chips(plan: &mut Plan, chips: &[Chip]) {
+    plan.devices.iter_mut().zip(chips).for_each(|(device, chip)| device.chip = *chip);
+}
+
+/// A device that only clears bits answers questions 2 and 3 as any other, and the three marks may
+/// stand in one plan in any order.
+pub fn clearing_devices() -> Vec<Named> {
+    use Chip::{Clearing, Plain, Suspending};
+    vec![
+        t("a device that only clears bits, patience 0", 3, |p| {
+            (p.devices[0].chip, p.devices[0].patience) = (Clearing, 0);
+        }),
+        two_devices("the second of two only clears bits", 0, |p| p.devices[1].chip = Clearing),
+        two_devices("the second only clears bits and starts one more", 3, |p| {
+            (p.devices[1].chip, p.devices[1].start) = (Clearing, 33);
+        }),
+        changed("marks 44 56, 44 53 and 44 46 in one plan", 0, largest(), |p| {
+            set_chips(p, &[Plain, Suspending, Clearing]);
+        }),
+        changed("marks 44 46, 44 56, 44 53 and 44 46 in one plan", 0, largest(), |p| {
+            set_chips(p, &[Clearing, Plain, Suspending, Clearing]);
+        }),
+        t("five devices that only clear bits", 2, |p| {
+            p.devices = joined(&[64, 1, 1, 1, 1]);
+            set_chips(p, &[Clearing; 5]);
         }),
     ]
 }
@@ -205,6 +257,7 @@ pub fn question_1_order() -> Vec<Named> {
     let records = raw_records(&plan_t());
     let (device, area, sub_area) = (&records[0], &records[1], &records[3]);
     let suspending = RawRecord { mark: SUSPENDING_DEVICE_MARK, ..device.clone() };
+    let clearing = RawRecord { mark: CLEARING_DEVICE_MARK, ..device.clone() };
     let of_records = |name: &str, number: u8, records: &[&RawRecord]| {
         let bytes = records.iter().flat_map(|record| record.bytes()).collect();
         of_bytes(name, number, bytes)
@@ -213,10 +266,16 @@ pub fn question_1_order() -> Vec<Named> {
         of_records("one record of each kind", 0, &[device, area, sub_area]),
         of_records("area before device", 1, &[area, device, sub_area]),
         of_records("area before a device that can suspend", 1, &[area, &suspending, sub_area]),
+        of_records("area before a device that only clears bits", 1, &[area, &clearing, sub_area]),
         of_records(
             "a device that can suspend behind all",
             1,
             &[device, area, sub_area, &suspending],
+        ),
+        of_records(
+            "a device that only clears bits behind all",
+            1,
+            &[device, area, sub_area, &clearing],
         ),
         of_records("sub-area before area", 1, &[device, sub_area, area]),
         of_records("sub-area before device", 1, &[sub_area, device]),

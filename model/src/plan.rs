@@ -1,13 +1,13 @@
-//! Plans: the records of document 01, "The plan", with the device mark of Req 02 of document 02, and
-//! loading, questions 1 to 8 of "Questions at the door".
+//! Plans: the records of document 01, "The plan", with the device marks of Req 02 and 03 of document 02,
+//! and loading, questions 1 to 8 of "Questions at the door".
 //!
 //! Sums and products of fields are exact: they are taken in 64 or 128 bits, where none can wrap.
 
 use std::ops::Range;
 
 pub const DEVICE_MARK: [u8; 2] = [0x44, 0x56];
-/// "A device record with mark hex 44 53, laid out as before, means the chip can pause."
 pub const SUSPENDING_DEVICE_MARK: [u8; 2] = [0x44, 0x53];
+pub const CLEARING_DEVICE_MARK: [u8; 2] = [0x44, 0x46];
 pub const AREA_MARK: [u8; 2] = [0x41, 0x52];
 pub const SUB_AREA_MARK: [u8; 2] = [0x53, 0x42];
 
@@ -25,8 +25,18 @@ pub struct Device {
     pub start: u32,
     pub length: u32,
     pub patience: u16,
-    /// Can a running erase give way to another request? The mark tells.
-    pub can_suspend: bool,
+    pub chip: Chip,
+}
+
+/// What the chip of a device is able to do, told by the mark of its record. The plainest is the first.
+#[derive(Clone, Copy, Debug, PartialEq, Eq, PartialOrd, Ord)]
+pub enum Chip {
+    Plain,
+    /// "A device record with mark hex 44 53, laid out as before, means the chip can pause."
+    Suspending,
+    /// "On NOR flash a write can turn a bit from 1 to 0 and never back. Plans gain a device mark hex 44
+    /// 46 for such a chip, which can pause too; the layout is the old one."
+    Clearing,
 }
 
 #[derive(Clone, Copy, Debug, PartialEq, Eq)]
@@ -67,6 +77,38 @@ impl Device {
     pub fn bytes(&self) -> Range<u64> {
         let start = u64::from(self.start);
         start..start + u64::from(self.length)
+    }
+}
+
+impl Chip {
+    pub const ALL: [Chip; 3] = [Chip::Plain, Chip::Suspending, Chip::Clearing];
+
+    pub fn mark(self) -> [u8; 2] {
+        match self {
+            Chip::Plain => DEVICE_MARK,
+            Chip::Suspending => SUSPENDING_DEVICE_MARK,
+            Chip::Clearing => CLEARING_DEVICE_MARK,
+        }
+    }
+
+    fn marked(mark: [u8; 2]) -> Option<Chip> {
+        Chip::ALL.into_iter().find(|chip| chip.mark() == mark)
+    }
+
+    /// Can a running erase give way to another request?
+    pub fn can_suspend(self) -> bool {
+        match self {
+            Chip::Plain => false,
+            Chip::Suspending | Chip::Clearing => true,
+        }
+    }
+
+    /// Do writes turn bits from 1 to 0 and never back?
+    pub fn only_clears(self) -> bool {
+        match self {
+            Chip::Plain | Chip::Suspending => false,
+            Chip::Clearing => true,
+        }
     }
 }
 
@@ -136,13 +178,12 @@ pub fn whole_records(bytes: &[u8]) -> Option<Plan> {
     let mut plan = Plan::default();
     while !reader.rest.is_empty() {
         match reader.take()? {
-            mark @ (DEVICE_MARK | SUSPENDING_DEVICE_MARK)
-                if plan.areas.is_empty() && plan.sub_areas.is_empty() =>
-            {
-                plan.devices.push(reader.device(mark == SUSPENDING_DEVICE_MARK)?)
-            }
             AREA_MARK if plan.sub_areas.is_empty() => plan.areas.push(reader.area()?),
             SUB_AREA_MARK => plan.sub_areas.push(reader.sub_area()?),
+            mark if plan.areas.is_empty() && plan.sub_areas.is_empty() => {
+                let chip = Chip::marked(mark)?;
+                plan.devices.push(reader.device(chip)?);
+            }
             _ => return None,
         }
     }
@@ -268,8 +309,8 @@ impl Reader<'_> {
     }
 
     /// "Device: physical start 4, length 4, patience 2."
-    fn device(&mut self, can_suspend: bool) -> Option<Device> {
-        Some(Device { start: self.u32()?, length: self.u32()?, patience: self.u16()?, can_suspend })
+    fn device(&mut self, chip: Chip) -> Option<Device> {
+        Some(Device { start: self.u32()?, length: self.u32()?, patience: self.u16()?, chip })
     }
 
     /// "Area: priority 2, logical start 4, window start 4, window length 4."

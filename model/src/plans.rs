@@ -9,12 +9,11 @@ mod wounds;
 
 pub use enduring::enduring;
 pub use loose::loose;
-pub use small::{crowded, full, small};
+pub use small::{crowded, full, full_that_stores, small};
 pub use valid::valid;
 pub use wounds::{byte_changes, cuts, field_changes, wounded};
 
-use crate::plan::{Area, Device, Plan, SubArea};
-use crate::plan::{AREA_MARK, DEVICE_MARK, SUB_AREA_MARK, SUSPENDING_DEVICE_MARK};
+use crate::plan::{Area, Chip, Device, Plan, SubArea, AREA_MARK, SUB_AREA_MARK};
 use crate::random::Random;
 use std::collections::BTreeSet;
 
@@ -55,7 +54,7 @@ impl RawRecord {
 impl From<&Device> for RawRecord {
     fn from(device: &Device) -> Self {
         RawRecord {
-            mark: if device.can_suspend { SUSPENDING_DEVICE_MARK } else { DEVICE_MARK },
+            mark: device.chip.mark(),
             fields: vec![
                 Field::new(device.start, 4),
                 Field::new(device.length, 4),
@@ -149,7 +148,7 @@ pub fn plan_t() -> Plan {
         window_length: 16,
     };
     Plan {
-        devices: vec![Device { start: 0, length: 64, patience: 2, can_suspend: false }],
+        devices: vec![Device { start: 0, length: 64, patience: 2, chip: Chip::Plain }],
         areas: vec![area(1, 0, 0), area(5, 256, 16)],
         sub_areas: vec![sub_area_0, sub_area_1],
     }
@@ -191,17 +190,31 @@ pub fn plan_e(patience: u16) -> Plan {
         window_length: 8,
     };
     Plan {
-        devices: vec![Device { start: 0, length: 64, patience, can_suspend: true }],
+        devices: vec![Device { start: 0, length: 64, patience, chip: Chip::Suspending }],
         areas: vec![area(1, 0, 0), area(5, 256, 8), area(9, 512, 16)],
         sub_areas: vec![sub_area_0, sub_area_1, sub_area_2],
     }
 }
 
-/// Draws whether each device can suspend: two in three can, so that both marks often stand in one
-/// plan.
+/// Plan E with a chip that only clears bits.
+pub fn plan_f(patience: u16) -> Plan {
+    with_chips(plan_e(patience), Chip::Clearing)
+}
+
+/// The plan with all its devices of one kind.
+pub fn with_chips(mut plan: Plan, chip: Chip) -> Plan {
+    plan.devices.iter_mut().for_each(|device| device.chip = chip);
+    plan
+}
+
+/// Draws the mark of each device. Half of the plans have their marks dealt out in turn, so that with
+/// three devices or more all three stand in one plan. Two in three devices can suspend.
 pub fn draw_marks(random: &mut Random, plan: &mut Plan) {
-    for device in &mut plan.devices {
-        device.can_suspend = !random.one_in(3);
+    let mut dealt = Chip::ALL;
+    random.shuffle(&mut dealt);
+    let is_dealt = random.one_in(2);
+    for (device, chip) in plan.devices.iter_mut().zip(dealt.into_iter().cycle()) {
+        device.chip = if is_dealt { chip } else { random.pick(&Chip::ALL) };
     }
 }
 
@@ -230,7 +243,7 @@ pub fn regular(devices: u32, areas: u32, sub_areas: u32) -> Plan {
         start: number * REGULAR_DEVICE,
         length: REGULAR_DEVICE,
         patience: 2,
-        can_suspend: false,
+        chip: Chip::Plain,
     };
     let area = |number| Area {
         priority: 1,
@@ -285,12 +298,8 @@ pub fn any(random: &mut Random) -> Vec<u8> {
 fn noise(random: &mut Random) -> Vec<u8> {
     let mut bytes = Vec::new();
     for _ in 0..random.below(4) {
-        let (mark, width) = random.pick(&[
-            (DEVICE_MARK, 10),
-            (SUSPENDING_DEVICE_MARK, 10),
-            (AREA_MARK, 14),
-            (SUB_AREA_MARK, 36),
-        ]);
+        let device = (random.pick(&Chip::ALL).mark(), 10);
+        let (mark, width) = random.pick(&[device, device, (AREA_MARK, 14), (SUB_AREA_MARK, 36)]);
         bytes.extend(mark);
         bytes.extend((0..width).map(|_| random.byte()));
     }

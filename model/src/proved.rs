@@ -18,6 +18,8 @@ pub struct DeviceRecord {
     pub poll_limit: u16,
     /// Whether the chip can suspend an erase.
     pub suspends: bool,
+    /// Whether writes only clear bits.
+    pub clears: bool,
 }
 
 #[repr(C)]

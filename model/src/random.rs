@@ -51,6 +51,15 @@ impl Random {
         self.bits().to_le_bytes()[0]
     }
 
+    pub fn bytes(&mut self, length: usize) -> Vec<u8> {
+        let mut bytes = Vec::with_capacity(length + 7);
+        while bytes.len() < length {
+            bytes.extend(self.bits().to_le_bytes());
+        }
+        bytes.truncate(length);
+        bytes
+    }
+
     pub fn shuffle<T>(&mut self, items: &mut [T]) {
         for last in (1..items.len()).rev() {
             items.swap(last, self.index(last + 1));

@@ -44,11 +44,23 @@ impl Lending {
         Lending { image_length: index(sum), store_length: STORE_LENGTH, bytes: Bytes::Bench }
     }
 
-    fn drawn(random: &mut Random, plan: &[u8]) -> Lending {
+    /// The same bytes in the lengths that the bench lends to this plan.
+    pub fn fitted(&self, plan: &[u8]) -> Lending {
+        Lending { bytes: self.bytes, ..Lending::bench(plan) }
+    }
+
+    /// What fits, in two of three cases with bytes of any value: on an image all 255 it takes two
+    /// writes to see that a chip only clears bits.
+    fn fitting(random: &mut Random, plan: &[u8]) -> Lending {
         let mut lending = Lending::bench(plan);
-        if random.one_in(4) {
+        if !random.one_in(3) {
             lending.bytes = Bytes::Drawn(random.bits());
         }
+        lending
+    }
+
+    fn drawn(random: &mut Random, plan: &[u8]) -> Lending {
+        let mut lending = Lending::fitting(random, plan);
         if random.one_in(16) {
             let length = lending.image_length;
             lending.image_length = random.pick(&[0, length.saturating_sub(1), length + 1]);
@@ -60,14 +72,13 @@ impl Lending {
         lending
     }
 
-    /// Image and store.
+    /// Image and store. What is drawn for the one does not hang on the length of the other.
     pub fn memory(&self) -> (Vec<u8>, Vec<u8>) {
         match self.bytes {
             Bytes::Bench => (vec![255; self.image_length], vec![0; self.store_length]),
             Bytes::Drawn(seed) => {
-                let mut random = Random::new(seed);
-                let mut bytes = |length| (0..length).map(|_| random.byte()).collect();
-                (bytes(self.image_length), bytes(self.store_length))
+                let drawn = |seed: u64, length: usize| Random::new(seed).bytes(length);
+                (drawn(seed, self.image_length), drawn(!seed, self.store_length))
             }
         }
     }
@@ -101,7 +112,7 @@ impl Script {
         Script {
             lines: lines_of(&busy_calls(random, &records), &records),
             is_last_ended: true,
-            lending: Lending::bench(&plan),
+            lending: Lending::fitting(random, &plan),
             plan,
         }
     }

@@ -8,6 +8,8 @@
 mod busy;
 mod calls;
 mod lines;
+mod rewrites;
+mod spots;
 mod suspensions;
 
 pub use busy::{busy_calls, busy_plan};
@@ -15,7 +17,7 @@ pub use calls::{steps, Memory, Step};
 pub use lines::{lines, lines_of, text, Line};
 
 use crate::plan::Plan;
-use crate::plans::{draw_marks, full, largest, plan_e, plan_t, plan_v, small, valid};
+use crate::plans::{draw_marks, full, largest, plan_e, plan_f, plan_t, plan_v, small, valid};
 use crate::random::Random;
 use crate::session::BENCH_SUM_LIMIT;
 
@@ -35,10 +37,11 @@ pub fn bench_plan(random: &mut Random) -> Plan {
 }
 
 fn named(random: &mut Random) -> Plan {
-    match random.below(4) {
+    match random.below(5) {
         0 => plan_t(),
         1 => plan_v(),
-        _ => plan_e(random.pick(&[2, 3, 5])),
+        2 => plan_e(random.pick(&[2, 3, 5])),
+        _ => plan_f(random.pick(&[2, 3, 5])),
     }
 }
 

@@ -3,7 +3,7 @@
 //! Lines are dropped first, then records of the plan, then numbers made plainer, until nothing more
 //! can go. A change is kept if the session still shows a difference, not necessarily the same.
 
-use crate::plan::{self, Plan, SubArea};
+use crate::plan::{self, Chip, Plan, SubArea};
 use crate::plans::{encode, encode_records, raw_records};
 use crate::script::{Bytes, Lending, Script};
 use crate::subject::Difference;
@@ -82,7 +82,7 @@ fn with_fewer_records(mut best: Script, shows: &mut Shows) -> Script {
     best
 }
 
-/// Tries a change of the records. A lending that was the bench's stays the bench's.
+/// Tries a change of the records. Memory of the lengths that the bench lends keeps to them.
 fn better_plan(
     best: Script,
     shows: &mut Shows,
@@ -98,10 +98,10 @@ fn better_plan(
 }
 
 fn set_plan(script: &mut Script, plan: Vec<u8>) {
-    let is_bench = script.lending == Lending::bench(&script.plan);
+    let is_fitting = script.lending == script.lending.fitted(&script.plan);
     script.plan = plan;
-    if is_bench {
-        script.lending = Lending::bench(&script.plan);
+    if is_fitting {
+        script.lending = script.lending.fitted(&script.plan);
     }
 }
 
@@ -183,11 +183,15 @@ fn drop_last_device(script: &mut Script, plan: &mut Plan) {
     }
 }
 
-/// Takes the mark from devices that need not suspend.
+/// Gives devices the mark of a plainer chip, of the plainest that will do.
 fn with_plainer_marks(mut best: Script, shows: &mut Shows) -> Script {
     let device_count = plan::whole_records(&best.plan).map_or(0, |plan| plan.devices.len());
-    for device in 0..device_count {
-        best = better_plan(best, shows, |_, plan| plan.devices[device].can_suspend = false);
+    let devices = (0..device_count).flat_map(|device| Chip::ALL.map(|chip| (device, chip)));
+    for (device, plainer) in devices {
+        best = better_plan(best, shows, |_, plan| {
+            let chip = &mut plan.devices[device].chip;
+            *chip = plainer.min(*chip);
+        });
     }
     best
 }
@@ -247,8 +251,8 @@ fn with_plainer_lending(best: Script, shows: &mut Shows) -> Script {
     let best = better(best, ended, shows);
     let lent = Script { lending: Lending { bytes: Bytes::Bench, ..best.lending }, ..best.clone() };
     let best = better(best, lent, shows);
-    let bench = Script { lending: Lending::bench(&best.plan), ..best.clone() };
-    better(best, bench, shows)
+    let fitted = Script { lending: best.lending.fitted(&best.plan), ..best.clone() };
+    better(best, fitted, shows)
 }
 
 /// Smaller numbers, and done for pending, which ends a request sooner.

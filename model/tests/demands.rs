@@ -3,20 +3,21 @@
 use model::calls::Call;
 use model::demands::{Tally, Trial};
 use model::jobs::{Answer, Operation, Target};
-use model::plan::{Area, Device, Plan, SubArea};
-use model::plans::{equals_meet, largest, plan_e, plan_t, plan_v, priority_count, small, valid};
+use model::plan::{Area, Chip, Device, Plan, SubArea};
+use model::plans::{draw_marks, equals_meet, largest, priority_count, small, valid};
+use model::plans::{plan_e, plan_f, plan_t, plan_v};
 use model::random::Random;
 use model::sessions::{busy_calls, busy_plan, steps, Step};
 use std::time::Instant;
 
 const STEPS_PER_PLAN: usize = 400;
 
-/// Bytes of one value, of two, or of any.
+/// Bytes of any value in more than half of the cases, else of two values or of one.
 fn memory(random: &mut Random, length: usize) -> Vec<u8> {
-    match random.below(4) {
-        0 => (0..length).map(|_| random.byte()).collect(),
-        1 => (0..length).map(|_| random.pick(&[0, 255])).collect(),
-        2 => vec![0; length],
+    match random.below(9) {
+        0..=4 => random.bytes(length),
+        5..=6 => (0..length).map(|_| random.pick(&[0, 255])).collect(),
+        7 => vec![0; length],
         _ => vec![255; length],
     }
 }
@@ -46,6 +47,8 @@ fn runs(seed: u64, plans: u32, plan: fn(&mut Random) -> Plan) -> Tally {
     let mut tally = Tally::default();
     // Plans on which the order of acceptance matters, of one priority, of two and of more.
     let mut meetings = [0; 3];
+    // Images that begin with bytes of any value.
+    let mut drawn_images = 0;
     let start = Instant::now();
     for number in 0..plans {
         let plan = plan(&mut random);
@@ -54,15 +57,18 @@ fn runs(seed: u64, plans: u32, plan: fn(&mut Random) -> Plan) -> Tally {
         }
         let steps = steps(&mut random, &plan, STEPS_PER_PLAN);
         let name = format!("seed {seed}, plan {number}");
-        run(&mut trial(&mut random, &plan), &steps, &mut tally, &name);
+        let mut trial = trial(&mut random, &plan);
+        drawn_images += u32::from(trial.image().iter().any(|byte| !matches!(byte, 0 | 255)));
+        run(&mut trial, &steps, &mut tally, &name);
     }
     let seconds = start.elapsed().as_secs_f64();
     let per_second = |count: u64| count as f64 / seconds;
     let (calls, rounds) = (per_second(tally.calls), per_second(tally.rounds));
     println!(
         "seed {seed}, {plans} plans, per second {calls:.0} calls, {rounds:.0} rounds\n{tally}\n\
-         areas of equal priority meet: {meetings:?}\n"
+         areas of equal priority meet: {meetings:?}, images of any bytes: {drawn_images}\n"
     );
+    assert!(2 * drawn_images >= plans, "{drawn_images} of {plans}");
     assert!(2 * meetings.iter().sum::<u32>() >= plans, "{meetings:?} of {plans}");
     assert!(meetings.iter().all(|count| *count >= 100), "{meetings:?}");
     tally
@@ -90,6 +96,9 @@ fn assert_tried(tally: &Tally, often: u64) {
     for (name, count) in tally.suspensions.counts() {
         assert!(count >= often / 4, "erases, {name}: only {count}");
     }
+    for (name, count) in tally.clearing.counts() {
+        assert!(count >= often / 4, "writes with a byte of neither version, {name}: only {count}");
+    }
     // Below is rare between equals: the busy lists try it.
     for (name, count) in tally.equals.counts().into_iter().filter(|(name, _)| *name != "below") {
         assert!(count >= often, "between equals, {name}: only {count}");
@@ -101,19 +110,25 @@ fn small_plans() {
     assert_tried(&runs(51, 9_000, small), 1_000);
 }
 
-/// Longer jobs on plans T, V and E, on the plan with most records, and on random plans with little
+/// Longer jobs on plans T, V, E and F, on the plan with most records, and on random plans with little
 /// patience.
 #[test]
 fn other_plans() {
     let plan = |random: &mut Random| match random.below(16) {
         0 => plan_t(),
-        1 => plan_e(random.pick(&[2, 3, 5])),
+        1 => random.pick(&[plan_e, plan_f])(random.pick(&[2, 3, 5])),
         2..=5 => plan_v(),
-        6..=7 => largest(),
+        6 => largest(),
+        7 => {
+            let mut plan = largest();
+            draw_marks(random, &mut plan);
+            plan
+        }
         _ => impatient(random),
     };
     let tally = runs(52, 4_000, plan);
     assert!(tally.suspensions.counts().iter().all(|(_, count)| *count >= 50));
+    assert!(tally.clearing.counts().iter().all(|(_, count)| *count >= 100));
     assert!((0..=3).all(|result| tally.results(result) >= 1_000));
     assert!(tally.waits.iter().all(|count| *count >= 1_000));
 }
@@ -180,8 +195,8 @@ fn three_stretches() -> Plan {
     };
     Plan {
         devices: vec![
-            Device { start: 0, length: 32, patience: 3, can_suspend: false },
-            Device { start: 32, length: 32, patience: 4, can_suspend: false },
+            Device { start: 0, length: 32, patience: 3, chip: Chip::Plain },
+            Device { start: 32, length: 32, patience: 4, chip: Chip::Plain },
         ],
         areas: vec![area(9, 0), area(1, 16), area(1, 32)],
         sub_areas: vec![
@@ -194,10 +209,11 @@ fn three_stretches() -> Plan {
     }
 }
 
-/// The same with a device 0 that can suspend and an area 3 on it, between area 0 and area 1.
-fn three_stretches_that_suspend() -> Plan {
+/// The same with a device 0 of this chip, which can suspend, and an area 3 on it, between area 0 and
+/// area 1.
+fn three_stretches_that_suspend(chip: Chip) -> Plan {
     let mut plan = three_stretches();
-    plan.devices[0].can_suspend = true;
+    plan.devices[0].chip = chip;
     plan.areas.push(Area { priority: 5, window_start: 48, ..plan.areas[0] });
     plan.sub_areas.push(SubArea { area: 3, start: 20, ..plan.sub_areas[3] });
     plan
@@ -285,9 +301,13 @@ fn both_bounds_are_reached() {
     assert_eq!(below, (2 + 3 + 2, 7));
 }
 
-/// "On such chips the bound on rounds below becomes twice (patience less one) per stretch".
+/// "On such chips the bound on rounds below becomes twice (patience less one) per stretch": on those
+/// that only clear bits too.
 #[test]
 fn doubled_bound_is_reached() {
-    let [_, below] = bounds_after(&three_stretches_that_suspend(), &slowest_others_that_suspend());
-    assert_eq!(below, (2 * 2 + 3 + 2 * 2, 11));
+    for chip in [Chip::Suspending, Chip::Clearing] {
+        let plan = three_stretches_that_suspend(chip);
+        let [_, below] = bounds_after(&plan, &slowest_others_that_suspend());
+        assert_eq!(below, (2 * 2 + 3 + 2 * 2, 11));
+    }
 }

@@ -3,7 +3,8 @@
 
 mod mutants;
 
-use model::coverage::{Coverage, Equals, Kind, Marks, PlanAnswer, Priorities, Suspension};
+use model::coverage::{Clearing, Coverage, Equals, Image, Kind, Marks};
+use model::coverage::{PlanAnswer, Priorities, Suspension};
 use model::fuzz::{fuzz, Ending};
 use model::random::Random;
 use model::script::Script;
@@ -35,6 +36,7 @@ fn the_sessions_try_everything() {
     assert_eq!(coverage.rarer_than(3), []);
     assert_order_is_tried(&coverage);
     assert_suspensions_are_tried(&coverage);
+    assert_clearing_is_tried(&coverage);
 }
 
 /// On half of the plans or more the order of acceptance matters, and it decides often.
@@ -69,6 +71,23 @@ fn assert_suspensions_are_tried(coverage: &Coverage) {
     }
 }
 
+/// Half of the sessions or more begin with an image of any bytes, all three marks often stand in one
+/// plan, and writes on chips that only clear bits end often, in every manner.
+fn assert_clearing_is_tried(coverage: &Coverage) {
+    let images = [Image::Blank, Image::Drawn].map(|image| coverage.count(Kind::Image(image)));
+    assert!(images[0] >= 300 && images[0] <= images[1], "{images:?}");
+    let all_marks = coverage.count(Kind::AllMarks);
+    assert!(all_marks >= 200, "{all_marks}");
+    for clearing in Clearing::ALL {
+        let count = coverage.count(Kind::Clearing(clearing));
+        let least = match clearing {
+            Clearing::Done | Clearing::Failed | Clearing::DoneAgain | Clearing::FailedAgain => 600,
+            _ => 100,
+        };
+        assert!(count >= least, "{clearing:?}: only {count}");
+    }
+}
+
 #[test]
 fn every_mutant_is_found() {
     for (number, mut mutant) in (0..).zip(mutants::all().into_iter().chain(mutants::lasting())) {
@@ -77,11 +96,11 @@ fn every_mutant_is_found() {
     }
 }
 
-/// What is found of the mutants of the order, and of those of erases that give way, is not owed to the
-/// way they are made.
+/// What is found of the mutants of the order, of those of erases that give way, and of those of writes
+/// that leave other bytes, is not owed to the way they are made.
 #[test]
 fn what_is_right_is_not_found() {
-    for mut right in [mutants::right_order(), mutants::no_flaw()] {
+    for mut right in [mutants::right_order(), mutants::no_flaw(), mutants::right_writes()] {
         let found = first_difference(&mut right, 62, SESSIONS / 4);
         assert_eq!(found, None, "{}", right.name);
     }

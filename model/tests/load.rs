@@ -3,7 +3,7 @@
 use model::histogram::Histogram;
 use model::named::{self, Named};
 use model::plan::{
-    load, sub_areas_apart, whole_records, windows_apart, Area, Device, Plan, SubArea,
+    load, sub_areas_apart, whole_records, windows_apart, Area, Chip, Device, Plan, SubArea,
 };
 use model::plans::{any, crowded, encode, full, loose, plan_t, small, valid};
 use model::random::Random;
@@ -30,12 +30,15 @@ fn question_1_both_sides() {
     check(named::question_1_order());
 }
 
-/// "A device record with mark hex 44 53, laid out as before": beside the other mark or alone; the marks
-/// of later requests are unknown.
+/// "A device record with mark hex 44 53, laid out as before", "a device mark hex 44 46 for such a chip,
+/// (...) the layout is the old one": beside the other marks or alone; the marks of later requests are
+/// unknown.
 #[test]
 fn question_1_device_marks() {
     check(named::question_1_marks());
+    check(named::question_1_clearing_marks());
     check(named::suspending_devices());
+    check(named::clearing_devices());
 }
 
 #[test]
@@ -117,7 +120,7 @@ fn plan_t_has_the_fields_of_the_paper() {
     let plan = load(&PLAN_T).expect("plan T is accepted");
     let area_0 = Area { priority: 1, logical_start: 0, window_start: 0, window_length: 16 };
     let area_1 = Area { priority: 5, logical_start: 256, window_start: 16, window_length: 16 };
-    assert_eq!(plan.devices, [Device { start: 0, length: 64, patience: 2, can_suspend: false }]);
+    assert_eq!(plan.devices, [Device { start: 0, length: 64, patience: 2, chip: Chip::Plain }]);
     assert_eq!(plan.areas, [area_0, area_1]);
     assert_eq!(plan.device_sum(), 64);
     assert_eq!(plan, plan_t());
@@ -161,15 +164,13 @@ fn plan_t_has_the_sub_areas_of_the_paper() {
 /// Every field has its own place and its bytes stand least significant first.
 #[test]
 fn fields_are_read_in_order() {
-    let bytes: Vec<u8> = [0x44, 0x56].into_iter().chain(1..=10).collect();
-    let device = whole_records(&bytes).expect("a whole device").devices[0];
-    let expected =
-        Device { start: 0x04030201, length: 0x08070605, patience: 0x0A09, can_suspend: false };
-    assert_eq!(device, expected);
-
-    let bytes: Vec<u8> = [0x44, 0x53].into_iter().chain(1..=10).collect();
-    let device = whole_records(&bytes).expect("a whole device").devices[0];
-    assert_eq!(device, Device { can_suspend: true, ..expected });
+    let marks = [(0x56, Chip::Plain), (0x53, Chip::Suspending), (0x46, Chip::Clearing)];
+    for (second, chip) in marks {
+        let bytes: Vec<u8> = [0x44, second].into_iter().chain(1..=10).collect();
+        let device = whole_records(&bytes).expect("a whole device").devices[0];
+        let expected = Device { start: 0x04030201, length: 0x08070605, patience: 0x0A09, chip };
+        assert_eq!(device, expected);
+    }
 
     let bytes: Vec<u8> = [0x41, 0x52].into_iter().chain(1..=14).collect();
     let area = whole_records(&bytes).expect("a whole area").areas[0];
@@ -213,10 +214,12 @@ fn valid_plans_load_to_themselves() {
 type Shows = fn(&Plan) -> bool;
 
 /// The extremes a valid plan can show; each must come up often in the random ones.
-const EXTREMES: [(&str, Shows); 17] = [
-    ("no device that can suspend", |p| p.devices.iter().all(|d| !d.can_suspend)),
-    ("every device can suspend", |p| p.devices.iter().all(|d| d.can_suspend)),
-    ("both device marks", |p| p.devices.windows(2).any(|d| d[0].can_suspend != d[1].can_suspend)),
+const EXTREMES: [(&str, Shows); 19] = [
+    ("no device that can suspend", |p| p.devices.iter().all(|d| !d.chip.can_suspend())),
+    ("every device can suspend", |p| p.devices.iter().all(|d| d.chip.can_suspend())),
+    ("every device only clears bits", |p| p.devices.iter().all(|d| d.chip.only_clears())),
+    ("two device marks", |p| mark_count(p) == 2),
+    ("all three device marks", |p| mark_count(p) == 3),
     ("all counts at their limits", |p| {
         (p.devices.len(), p.areas.len(), p.sub_areas.len()) == (4, 8, 32)
     }),
@@ -247,21 +250,31 @@ const EXTREMES: [(&str, Shows); 17] = [
     ("equal priorities", |p| p.areas.windows(2).any(|a| a[0].priority == a[1].priority)),
 ];
 
+fn mark_count(plan: &Plan) -> usize {
+    plan.devices.iter().map(|device| device.chip).collect::<BTreeSet<_>>().len()
+}
+
 /// Some span ends where another starts.
 fn touch(spans: impl Iterator<Item = std::ops::Range<u64>>) -> bool {
     let (starts, ends): (BTreeSet<_>, BTreeSet<_>) = spans.map(|s| (s.start, s.end)).unzip();
     !starts.is_disjoint(&ends)
 }
 
-/// Of the devices of every kind of random plan half or more can suspend.
+/// Of the devices of every kind of random plan half or more can suspend, and a quarter or more only
+/// clear bits. Where there is room for all three marks, half of the plans or more have them.
 #[test]
-fn most_random_devices_can_suspend() {
+fn every_mark_is_drawn_often() {
     let mut random = Random::new(7);
     for plan in [valid, loose, small, crowded, full] {
         let plans: Vec<_> = (0..2_000).map(|_| plan(&mut random)).collect();
         let devices: Vec<_> = plans.iter().flat_map(|plan| &plan.devices).collect();
-        let can_suspend = devices.iter().filter(|device| device.can_suspend).count();
+        let can_suspend = devices.iter().filter(|device| device.chip.can_suspend()).count();
         assert!((devices.len() / 2..devices.len()).contains(&can_suspend), "{can_suspend}");
+        let only_clear = devices.iter().filter(|device| device.chip.only_clears()).count();
+        assert!((devices.len() / 4..can_suspend).contains(&only_clear), "{only_clear}");
+        let wide: Vec<_> = plans.iter().filter(|plan| plan.devices.len() > 2).collect();
+        let with_all = wide.iter().filter(|plan| mark_count(plan) == 3).count();
+        assert!(!wide.is_empty() && 2 * with_all >= wide.len(), "{with_all} of {}", wide.len());
     }
 }
 

@@ -16,7 +16,8 @@ fn device_record(device: &Device) -> DeviceRecord {
         start: device.start,
         length: device.length,
         poll_limit: device.patience,
-        suspends: device.can_suspend,
+        suspends: device.chip.can_suspend(),
+        clears: device.chip.only_clears(),
     }
 }
 

@@ -3,7 +3,7 @@
 
 use model::jobs::{Answer, Operation, Target};
 use model::manager::{DeviceState, JobInfo, Manager, MemoryInfo, RequestInfo, Wait, Waits};
-use model::plan::{Area, Device, Plan, SubArea};
+use model::plan::{Area, Chip, Device, Plan, SubArea};
 use model::plans::{encode, enduring, plan_t, plan_v};
 use model::session::Session;
 use model::wait_book::{Numbers, WaitBook};
@@ -75,8 +75,8 @@ fn areas(priorities: &[u16]) -> Vec<Area> {
 fn two_devices() -> Plan {
     Plan {
         devices: vec![
-            Device { start: 0, length: 32, patience: 3, can_suspend: false },
-            Device { start: 32, length: 32, patience: 3, can_suspend: false },
+            Device { start: 0, length: 32, patience: 3, chip: Chip::Plain },
+            Device { start: 32, length: 32, patience: 3, chip: Chip::Plain },
         ],
         areas: areas(&[1, 2, 3]),
         sub_areas: vec![
@@ -421,7 +421,7 @@ fn retry_loses_the_device_to_a_higher_area() {
 /// One device of 48 bytes, patience 3, on which three areas of these priorities have 16 bytes each.
 fn three_areas(priorities: [u16; 3]) -> Plan {
     Plan {
-        devices: vec![Device { start: 0, length: 48, patience: 3, can_suspend: false }],
+        devices: vec![Device { start: 0, length: 48, patience: 3, chip: Chip::Plain }],
         areas: areas(&priorities),
         sub_areas: vec![fours(0, 0, 0, 4), fours(1, 0, 16, 4), fours(2, 0, 32, 4)],
     }
@@ -1091,7 +1091,7 @@ fn queries_of_unknown_areas_give_10() {
 /// Plan T with a second sub-area of area 1, every size of which is another.
 fn unlike_sizes() -> Plan {
     let mut plan = plan_t();
-    plan.devices.push(Device { start: 64, length: 64, patience: 1, can_suspend: false });
+    plan.devices.push(Device { start: 64, length: 64, patience: 1, chip: Chip::Plain });
     plan.sub_areas.push(SubArea {
         area: 1,
         device: 1,

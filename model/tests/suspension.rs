@@ -2,8 +2,8 @@
 //! larger priority is above, so area 2 outranks area 1 and that one area 0.
 
 use model::manager::RequestInfo;
-use model::plan::{load, Plan};
-use model::plans::{encode, plan_e};
+use model::plan::{load, Chip, Plan};
+use model::plans::{encode, plan_e, plan_f, with_chips};
 use model::session::Session;
 
 /// A session whose lines are checked one by one.
@@ -26,9 +26,11 @@ impl Bench {
     }
 }
 
-/// The session on plan E of patience 3.
+/// The session on plan E of patience 3, and on plan F, whose chip "can pause too".
 fn check(session: &[(&str, &str)]) {
-    Bench::on(&plan_e(3)).run(session);
+    for plan in [plan_e(3), plan_f(3)] {
+        Bench::on(&plan).run(session);
+    }
 }
 
 /// Plan E byte for byte, written by hand from the fields and widths of document 01.
@@ -75,9 +77,7 @@ fn polls_are_kept() {
 /// The same session with mark 44 56: nothing gives way.
 #[test]
 fn other_chips_suspend_nothing() {
-    let mut plan = plan_e(3);
-    plan.devices[0].can_suspend = false;
-    Bench::on(&plan).run(&[
+    Bench::on(&with_chips(plan_e(3), Chip::Plain)).run(&[
         ("4 0 0 16", "0"),
         ("0 p", "R 0:4:0:16"),
         ("0 p", "R 0:4:0:16"),
@@ -353,7 +353,7 @@ fn earlier_job_from_another_chip_suspends() {
     let mut plan = plan_e(3);
     plan.areas.iter_mut().for_each(|area| area.priority = 4);
     let mut devices = [plan.devices[0]; 2];
-    (devices[0].length, devices[0].can_suspend) = (16, false);
+    (devices[0].length, devices[0].chip) = (16, Chip::Plain);
     (devices[1].start, devices[1].length) = (16, 48);
     plan.devices = devices.to_vec();
     // Area 0 begins on device 0 and goes on behind the sub-area of area 1 on device 1.

@@ -1,15 +1,27 @@
 -- Parts of lists, and maps of numbers.
-use Prim.Native.Nat.{ℕ, _+_}
+use Prim.Native.Nat.{ℕ, _+_, _≤_, _<_}
 use mathlib.Core.List.{List, _++_}
 use mathlib.Core.Path.{_≡_, refl, sym, subst, ap, _∙_}
 use lib.Dec.{eqb}
-use lib.ListN.{length, take, drop}
+use native.Mathlib.Omega.{arith}
+use lib.ListN.{length, getD, take, drop, length-take, length-drop}
+use lib.Seq.{getD-take, getD-drop}
 use borrow.Author.Tests.{eq-eqb, ne-eqb}
 use Rattle.arith.specs.Cases.{pick, by-eqb}
 
 -- n elements from p on
 unfoldable pub part : {A : Type 0} → ℕ → ℕ → List A → List A
 part p n l = take n (drop p l)
+
+-- element i of a part that begins at q
+pub part-at : {A : Type 0} (d : A) (q n : ℕ) (l : List A) (i : ℕ) → i < n → getD (part q n l) i d ≡ getD l (q + i) d
+unfolding part
+part-at d q n l i h = rw (getD-take, getD-drop)
+
+-- a part has the length that it is asked for
+pub length-part : {A : Type 0} (q n : ℕ) (l : List A) → q + n ≤ length l → length (part q n l) ≡ n
+unfolding part
+length-part q n l h = simp (length-take, length-drop) (omega arith)
 
 -- l with x in the place of as many elements from p on
 unfoldable pub put : {A : Type 0} → ℕ → List A → List A → List A

@@ -1,6 +1,6 @@
 -- Plans of document 01 and near it, loaded by the definitions.
 use Prim.Native.Nat.{ℕ, zero, suc, _/_, _%_}
-use mathlib.Core.Bool.{true, false}
+use mathlib.Core.Bool.{Bool, true, false}
 use mathlib.Core.Path.{_≡_, refl}
 use mathlib.Core.List.{List, [], _∷_, _++_}
 use Rattle.arith.specs.Bounded.{every, some, sum}
@@ -17,7 +17,7 @@ abbrev pub bytes : ℕ → ℕ → List ℕ
 bytes zero n = []
 bytes (suc width) n = n % 256 ∷ bytes width (n / 256)
 
--- a device record with this second byte of its mark: 86, or 83 for a chip that can suspend
+-- a device record with this second byte of its mark: 86, 83 for a chip that can suspend, or 70 for one that clears bits only and can suspend too
 abbrev pub markedDevice : ℕ → ℕ → ℕ → ℕ → List ℕ
 markedDevice second start size limit = 68 ∷ second ∷ bytes 4 start ++ bytes 4 size ++ bytes 2 limit
 
@@ -45,9 +45,9 @@ planWith size limit = planOn (device 0 size limit)
 abbrev pub planT : List ℕ
 planT = planWith 64 2 32
 
--- plan T on a device with this second byte of its mark, and beside it one with that
-abbrev planMarked : ℕ → ℕ → List ℕ
-planMarked this that = planOn (markedDevice this 0 64 2 ++ markedDevice that 64 16 2) 32
+-- plan T on a device with the first of these second bytes of marks, and beside it two with the others
+abbrev planMarked : ℕ → ℕ → ℕ → List ℕ
+planMarked x y z = planOn (markedDevice x 0 64 2 ++ markedDevice y 64 16 2 ++ markedDevice z 80 16 2) 32
 
 -- three areas on a device with this second byte of its mark and this poll limit
 abbrev pub planE : ℕ → ℕ → List ℕ
@@ -55,8 +55,13 @@ planE second limit =
     markedDevice second 0 64 limit ++ area 1 0 0 8 ++ area 5 256 8 8 ++ area 9 512 16 8 ++ subArea 0 0 0 (sizes 16 16 4 4 1 8) 1 0 0
     ++ subArea 1 0 16 (sizes 16 16 4 4 1 4) 1 1 0 ++ subArea 2 0 32 (sizes 16 16 4 4 1 8) 2 0 0
 
+-- can device d of such a plan suspend, and does it only clear bits?
+abbrev marks : ℕ → Bool × Bool
+marks d = let x = deviceOf (records.planOf (planMarked 70 83 86) .devices) d in (x .suspends, x .clears)
+
 -- "Empty plan: 2. Patience 0: 3. Device length 63: 6. Sector burst 24: 5."
--- document 02, 02: "A device record with mark hex 44 53, laid out as before, means the chip can pause." A mark that is none is for 1.
+-- document 02, 02: "A device record with mark hex 44 53, laid out as before, means the chip can pause."; 03: "a device mark hex 44 46 for such
+-- a chip, which can pause too". The three may be mixed; a mark that is none of them is for 1.
 pub examples :
     (loadNumber planT ≡ 0)
     × (loadNumber (planE 83 3) ≡ 0)
@@ -64,10 +69,12 @@ pub examples :
     × (loadNumber (planWith 64 0 32) ≡ 3)
     × (loadNumber (planWith 63 2 32) ≡ 6)
     × (loadNumber (planWith 64 2 24) ≡ 5)
-    × (loadNumber (planMarked 83 86) ≡ 0)
-    × (loadNumber (planMarked 86 83) ≡ 0)
-    × (loadNumber (planMarked 83 70) ≡ 1)
-    × (deviceOf (records.planOf (planMarked 83 86) .devices) 0 .suspends ≡ true)
-    × (deviceOf (records.planOf (planMarked 83 86) .devices) 1 .suspends ≡ false)
+    × (loadNumber (planMarked 70 83 86) ≡ 0)
+    × (loadNumber (planMarked 86 70 83) ≡ 0)
+    × (loadNumber (planMarked 83 86 70) ≡ 0)
+    × (loadNumber (planMarked 83 86 71) ≡ 1)
+    × (marks 0 ≡ (true, true))
+    × (marks 1 ≡ (true, false))
+    × (marks 2 ≡ (false, false))
 unfolding firstNo every some sum multiple table numberAt loadNumber questions.wholeRecords questions.planQuestions questions.recordQuestions questions.countsFit questions.devicesJoin questions.deviceJoins questions.deviceDue questions.windowsFit questions.windowsApart questions.apart questions.sizesFit questions.granularityFits questions.allPlaced questions.isPlaced questions.insideDevice questions.spacesFit questions.spaceFits questions.sizeIn questions.subAreasApart records.planOf records.recordsEnd records.subAreasStart records.areasStart records.deviceCount records.areaCount records.subAreaCount records.recordsFrom records.recordsUpTo records.isRecord records.deviceAt records.areaAt records.subAreaAt records.granularityAt
-examples = (refl, refl, refl, refl, refl, refl, refl, refl, refl, refl, refl)
+examples = (refl, refl, refl, refl, refl, refl, refl, refl, refl, refl, refl, refl, refl)

@@ -1,13 +1,14 @@
 -- The steps of a walk over records that stand one behind the other.
 use Prim.Native.Nat.{ℕ, zero, suc, _+_, _-_, _*_, _≤_, _<_}
 use mathlib.Core.Path.{_≡_, refl}
-use mathlib.Core.Bool.{true, false, _||_}
+use mathlib.Core.Bool.{true, false}
 use mathlib.Core.List.{List}
 use native.Mathlib.Omega.{arith}
 use native.Mathlib.Nat.{zero-add}
 use lib.Dec.{eqb}
 use lib.ListN.{length, getD}
 use borrow.Author.Tests.{leb-true, le-leb, eq-eqb, ne-eqb}
+use Rattle.arith.specs.Bounded.{some}
 use Rattle.arith.specs.Cases.{and-elim}
 use Rattle.plan.specs.Records.{
   deviceFormat,
@@ -35,6 +36,11 @@ use Rattle.arith.specs.Tables.{table}
 use Rattle.plan.specs.declared.scan.RecordFormat.{RecordFormat}
 use Rattle.plan.specs.declared.scan.RecordLayout.{RecordLayout}
 
+-- a second byte that is none of the first two: the third decides
+pub among-last : (x : ℕ) (l : List ℕ) → (x ≡ getD l 0 0 → ⊥) → (x ≡ getD l 1 0 → ⊥) → eqb x (getD l 2 0) ≡ some (λ i. eqb x (getD l i 0)) 3
+unfolding some
+among-last x l h k = rw (ne-eqb _ _ h, ne-eqb _ _ k)
+
 module _ (f : RecordFormat) (l : List ℕ) where
   pub record-fits : (at : ℕ) → isRecord f l at ≡ true → at + f .size ≤ length l
   unfolding isRecord
@@ -42,16 +48,9 @@ module _ (f : RecordFormat) (l : List ℕ) where
 
   -- where the length and the first byte of the mark are right, the second byte decides
   pub record-second : (at : ℕ) → at + f .size ≤ length l → getD l at 0 ≡ f .first →
-      isRecord f l at ≡ (eqb (getD l (at + 1) 0) (f .second) || eqb (getD l (at + 1) 0) (f .other))
+      some (λ i. eqb (getD l (at + 1) 0) (getD (f .seconds) i 0)) 3 ≡ isRecord f l at
   unfolding isRecord
   record-second at h e = rw (le-leb _ _ h, eq-eqb _ _ e)
-
-  pub record-this : (at : ℕ) → at + f .size ≤ length l → getD l at 0 ≡ f .first → getD l (at + 1) 0 ≡ f .second → true ≡ isRecord f l at
-  record-this at h e s = rw (record-second at h e, eq-eqb _ _ s)
-
-  pub record-that : (at : ℕ) → at + f .size ≤ length l → getD l at 0 ≡ f .first → (getD l (at + 1) 0 ≡ f .second → ⊥) →
-      eqb (getD l (at + 1) 0) (f .other) ≡ isRecord f l at
-  record-that at h e s = rw (record-second at h e, ne-eqb _ _ s)
 
   -- one record more
   pub run-more : (n : ℕ) (at : ℕ) → n < length l → isRecord f l at ≡ true →

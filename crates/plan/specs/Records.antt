@@ -1,9 +1,10 @@
 -- document 01, "The plan": the records, and what a plan's bytes hold
 use Prim.Native.Nat.{ℕ, zero, suc, _+_, _*_}
 use mathlib.Core.Bool.{Bool, false, _&&_, _||_}
-use mathlib.Core.List.{List}
+use mathlib.Core.List.{List, [], _∷_}
 use lib.Dec.{leb, eqb}
 use lib.ListN.{length, getD, replicate}
+use Rattle.arith.specs.Bounded.{some}
 use Rattle.arith.specs.Cases.{pick}
 use Rattle.arith.specs.Tables.{table}
 use Rattle.plan.specs.Number.{numberAt}
@@ -15,14 +16,16 @@ use Rattle.plan.specs.declared.records.Plan.{Plan}
 use Rattle.plan.specs.declared.scan.RecordLayout.{RecordLayout}
 use Rattle.plan.specs.declared.scan.RecordFormat.{RecordFormat}
 
--- "Device, mark hex 44 56: physical start 4, length 4, patience 2."
+-- "Device, mark hex 44 56: physical start 4, length 4, patience 2." Document 02, 02 and 03: with mark 44 53 "the chip can pause"; "a device
+-- mark hex 44 46 for such a chip" (a write only clears bits), "which can pause too; the layout is the old one".
 unfoldable pub deviceAt : List ℕ → ℕ → DeviceRecord
 deviceAt l at =
     record {
       start = numberAt 4 l (at + 2);
       length = numberAt 4 l (at + 6);
       «poll_limit» = numberAt 2 l (at + 10);
-      suspends = eqb (getD l (at + 1) 0) 83;
+      suspends = eqb (getD l (at + 1) 0) 83 || eqb (getD l (at + 1) 0) 70;
+      clears = eqb (getD l (at + 1) 0) 70;
     }
 
 -- "Area, mark hex 41 52: priority 2, logical start 4, window start 4, window length 4."
@@ -55,7 +58,7 @@ subAreaAt l at =
 
 -- the records of all zeros: what an entry holds that is not in use
 abbrev pub noDevice : DeviceRecord
-noDevice = record { start = 0; length = 0; «poll_limit» = 0; suspends = false }
+noDevice = record { start = 0; length = 0; «poll_limit» = 0; suspends = false; clears = false }
 
 abbrev pub noArea : AreaRecord
 noArea = record { priority = 0; start = record { 0 = 0 }; window = record { start = 0; length = 0 } }
@@ -79,17 +82,17 @@ noSubArea =
 
 -- "A two-byte mark stands before each record." The bytes of a record count its mark.
 abbrev pub deviceFormat : RecordFormat
-deviceFormat = record { first = 68; second = 86; other = 83; size = 12 }
+deviceFormat = record { first = 68; seconds = 86 ∷ 83 ∷ 70 ∷ []; size = 12 }
 
 abbrev pub areaFormat : RecordFormat
-areaFormat = record { first = 65; second = 82; other = 82; size = 16 }
+areaFormat = record { first = 65; seconds = replicate 3 82; size = 16 }
 
 abbrev pub subAreaFormat : RecordFormat
-subAreaFormat = record { first = 83; second = 66; other = 66; size = 38 }
+subAreaFormat = record { first = 83; seconds = replicate 3 66; size = 38 }
 
 -- a whole record with this mark stands at `at`
 unfoldable pub isRecord : RecordFormat → List ℕ → ℕ → Bool
-isRecord f l at = leb (at + f .size) (length l) && (eqb (getD l at 0) (f .first) && (eqb (getD l (at + 1) 0) (f .second) || eqb (getD l (at + 1) 0) (f .other)))
+isRecord f l at = leb (at + f .size) (length l) && (eqb (getD l at 0) (f .first) && some (λ i. eqb (getD l (at + 1) 0) (getD (f .seconds) i 0)) 3)
 
 -- how many such records stand one behind the other from `at` on, at most `most`
 unfoldable pub recordsUpTo : ℕ → RecordFormat → List ℕ → ℕ → ℕ

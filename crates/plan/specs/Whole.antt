@@ -1,15 +1,13 @@
 -- Question 1 as plain facts: the bytes are read in one way only.
 use Prim.Native.Nat.{ℕ, zero, suc, _+_, _*_, _≤_, _<_}
 use mathlib.Core.Path.{_≡_, refl, sym, ap, _∙_}
-use mathlib.Core.Bool.{true, _||_}
+use mathlib.Core.Bool.{true}
 use mathlib.Core.List.{List}
-use mathlib.Core.Logic.{_↔_, _⊎_, inl, inr, ⊎-elim}
-use lib.Dec.{eqb}
+use mathlib.Core.Logic.{_↔_}
 use lib.ListN.{length, getD}
 use native.Mathlib.Nat.{zero-add}
 use native.Mathlib.Omega.{arith}
-use borrow.Author.Tests.{eqb-true, eq-eqb}
-use Rattle.arith.specs.Cases.{by-bool, or-elim, or-left, or-right}
+use Rattle.arith.specs.Cases.{by-bool}
 use Rattle.arith.specs.Plain.{plain}
 use Rattle.plan.specs.Records.{
   deviceFormat,
@@ -32,14 +30,7 @@ use Rattle.plan.specs.declared.scan.RecordFormat.{RecordFormat}
 pub record Record (f : RecordFormat) (l : List ℕ) (at : ℕ) : Type 0 where
   pub inside : at + f .size ≤ length l
   pub first-mark : getD l at 0 ≡ f .first
-  pub second-mark : (getD l (at + 1) 0 ≡ f .second) ⊎ (getD l (at + 1) 0 ≡ f .other)
-
--- one of two numbers
-one-of : {n a b : ℕ} → ((eqb n a || eqb n b) ≡ true) ↔ ((n ≡ a) ⊎ (n ≡ b))
-one-of {n} {a} {b} = (
-  λ e. or-elim (eqb n a) (eqb n b) e (λ f. inl (eqb-true n a f)) (λ f. inr (eqb-true n b f)),
-  ⊎-elim (λ e. or-left (eqb n a) (eqb n b) (eq-eqb n a e)) (λ e. or-right (eqb n a) (eqb n b) (eq-eqb n b e)),
-)
+  pub second-mark : (i : ℕ) × (i < 3) × (getD l (at + 1) 0 ≡ getD (f .seconds) i 0)
 
 -- "Whole records with known marks, in the order of kinds": d devices, a areas, s sub-areas, and nothing else
 pub record Whole (l : List ℕ) (d a s : ℕ) : Type 0 where
@@ -65,8 +56,8 @@ module _ (f : RecordFormat) (l : List ℕ) where
   record-plain : (at : ℕ) → (isRecord f l at ≡ true) ↔ Record f l at
   unfolding isRecord
   record-plain at = (
-    λ e. let facts = simp plain at e in record { inside = facts .0; first-mark = facts .1 .0; second-mark = one-of .0 (facts .1 .1) },
-    λ r. simp plain (r .inside, (r .first-mark, one-of .1 (r .second-mark))),
+    λ e. let facts = simp plain at e in record { inside = facts .0; first-mark = facts .1 .0; second-mark = facts .1 .1 },
+    λ r. simp plain (r .inside, (r .first-mark, r .second-mark)),
   )
 
   -- n + 1 records are one and n behind it

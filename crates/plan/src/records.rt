@@ -1,6 +1,8 @@
 // The records of a plan, and a plan as a load keeps it.
 ghost use mathlib.Core.Path.{_≡_};
 ghost use Prim.Native.Nat.{_+_, _*_, _≤_, _<_};
+ghost use mathlib.Core.Bool.{_||_};
+ghost use lib.Dec.{eqb};
 ghost use lib.ListN.{length};
 ghost use Rattle.arith.specs.Tables.{table};
 ghost use Rattle.plan.specs.Records.{deviceAt, areaAt, subAreaAt, granularityAt, noDevice, noArea, noGranularity, noSubArea, emptyPlan, planOf, recordLayout};
@@ -18,6 +20,8 @@ pub struct DeviceRecord {
     pub poll_limit: u16,
     // document 02, 02: the chip can pause an erase
     pub suspends: bool,
+    // document 02, 03: a write there only clears bits
+    pub clears: bool,
 }
 
 // An area's part of the job store.
@@ -66,6 +70,16 @@ pub struct Plan {
     pub sub_area_count: usize,
 }
 
+// Does the second byte of a device's mark say that the chip can suspend?
+fn can_suspend(mark: u8) -> bool
+    ensures { λ r. ⌜ r ≡ (eqb mark 83 || eqb mark 70) ⌝ }
+{
+    if mark == b'S' {
+        return true;
+    }
+    mark == b'F'
+}
+
 impl DeviceRecord {
     fn blank() -> DeviceRecord
         ensures { λ r. ⌜ r ≡ noDevice ⌝ }
@@ -75,6 +89,7 @@ impl DeviceRecord {
             length: 0,
             poll_limit: 0,
             suspends: false,
+            clears: false,
         }
     }
 
@@ -90,7 +105,8 @@ impl DeviceRecord {
             start,
             length,
             poll_limit,
-            suspends: mark == b'S',
+            suspends: can_suspend(mark),
+            clears: mark == b'F',
         }
     }
 }

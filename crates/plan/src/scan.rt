@@ -1,16 +1,29 @@
 // Question 1, whole records with known marks in the order of kinds: how many of each stand in a plan's bytes.
 ghost use mathlib.Core.Path.{_≡_};
 ghost use Prim.Native.Nat.{_+_, _*_, _≤_};
-ghost use lib.ListN.{length};
+ghost use lib.Dec.{eqb};
+ghost use lib.ListN.{length, getD};
+ghost use Rattle.arith.specs.Bounded.{some};
 ghost use Rattle.plan.specs.Records.{isRecord, recordsFrom, recordLayout};
 
 // The two bytes of a record's mark, and how many bytes it has with its mark.
 pub struct RecordFormat {
     pub first: u8,
-    pub second: u8,
-    // another second byte that will do
-    pub other: u8,
+    // the second bytes that will do
+    pub seconds: [u8; 3],
     pub size: usize,
+}
+
+fn is_among(second: u8, seconds: [u8; 3]) -> bool
+    ensures { λ r. ⌜ r ≡ some (λ i. eqb second (getD seconds i 0)) 3 ⌝ }
+{
+    if second == seconds[0] {
+        return true;
+    }
+    if second == seconds[1] {
+        return true;
+    }
+    second == seconds[2]
 }
 
 // Does a whole record of this format stand at `at`?
@@ -24,10 +37,8 @@ fn is_record(bytes: &[u8], at: usize, format: RecordFormat) -> bool
     if bytes[at] != format.first {
         return false;
     }
-    if bytes[at + 1] == format.second {
-        return true;
-    }
-    bytes[at + 1] == format.other
+    let seconds = format.seconds;
+    is_among(bytes[at + 1], seconds)
 }
 
 // Records of one format, one behind the other: how many, and where they end.
@@ -69,8 +80,7 @@ pub fn record_layout(bytes: &[u8]) -> RecordLayout
         0,
         RecordFormat {
             first: b'D',
-            second: b'V',
-            other: b'S',
+            seconds: [b'V', b'S', b'F'],
             size: 12,
         },
     );
@@ -79,8 +89,7 @@ pub fn record_layout(bytes: &[u8]) -> RecordLayout
         devices.end,
         RecordFormat {
             first: b'A',
-            second: b'R',
-            other: b'R',
+            seconds: [b'R'; 3],
             size: 16,
         },
     );
@@ -89,8 +98,7 @@ pub fn record_layout(bytes: &[u8]) -> RecordLayout
         areas.end,
         RecordFormat {
             first: b'S',
-            second: b'B',
-            other: b'B',
+            seconds: [b'B'; 3],
             size: 38,
         },
     );

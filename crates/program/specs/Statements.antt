@@ -22,11 +22,11 @@ use Rattle.rounds.specs.Close.{waitsIn, lentTo}
 use Rattle.rules.specs.History.{jobInfo, Call, submit, cancels, asks, round, History, start, step, run}
 use Rattle.rules.specs.Layout.{priorityOf, layoutOf}
 use Rattle.rules.specs.Machine.{Core, isPending, isCancelling, need, above, waitOf, holds}
-use Rattle.rules.specs.Memory.{Memory}
+use Rattle.rules.specs.Memory.{Memory, writtenByte}
 use Rattle.rules.specs.Queries.{noRequest}
 use Rattle.rules.specs.Reach.{callNumber, isRound, requestOf}
 use Rattle.rules.specs.Results.{Ends}
-use Rattle.rules.specs.Round.{answerOf as answerFor, takeAll, windowPlace}
+use Rattle.rules.specs.Round.{answerOf as answerFor, takeAll, windowPlace, clearsOnly}
 use Rattle.rules.specs.Session.{memoryOf}
 use Rattle.rules.specs.Statements as Rules
 use Rattle.segment.specs.Bytes.{joined, mappedByte, mappedBytes}
@@ -61,12 +61,12 @@ pub record Demand2 (p : Plan) (m : Manager) (h : History) (a : ℕ) : Type 0 whe
   -- "each once"
   pub bytes-once : let t = coreOf m .jobs a .task in
       (x y : ℕ) → x < t .length → y < t .length → mappedByte p a t x ≡ mappedByte p a t y → x ≡ y
-  -- "writes take them from it"
+  -- "writes take them from it"; document 02, 03: where a chip only clears bits, "success of a write there means that content"
   pub done-write : (answers : List DeviceAnswer) (lent : Memory) → let k = round answers lent in answerOf k m ≡ 0 → (d polls : ℕ) →
       coreOf m .devices d .state ≡ Runs a polls → answerFor answers d ≡ Answers.Done → coreOf m .jobs a .task .kind ≡ Write →
       (x : ℕ) → x < requestOf p (coreOf m) a .length →
       getD (memoryAfter k m lent .image) (requestOf p (coreOf m) a .start .0 + x) 0
-      ≡ getD (lent .store) (windowPlace p a (coreOf m .jobs a) + x) 0
+      ≡ writtenByte (clearsOnly p d) (getD (lent .image) (requestOf p (coreOf m) a .start .0 + x) 0) (getD (lent .store) (windowPlace p a (coreOf m .jobs a) + x) 0)
   -- "reads bring those bytes to the store"
   pub done-read : (answers : List DeviceAnswer) (lent : Memory) → let k = round answers lent in answerOf k m ≡ 0 → (d polls : ℕ) →
       coreOf m .devices d .state ≡ Runs a polls → answerFor answers d ≡ Answers.Done → coreOf m .jobs a .task .kind ≡ Read →

@@ -1,13 +1,16 @@
 // What a request's answer does to image and store.
 ghost use mathlib.Core.Path.{_≡_};
-ghost use Prim.Native.Nat.{_+_, _≤_, min};
+ghost use Prim.Native.Nat.{_+_, _≤_};
 ghost use lib.ListN.{length};
-ghost use Rattle.rules.specs.Memory.{imageAfter, storeAfter, agrees, verdictOf, memoryAfter};
+ghost use Rattle.arith.specs.Parts.{put};
+ghost use Rattle.rules.specs.Memory.{written, imageAfter, storeAfter, agrees, verdictOf, memoryAfter};
 ghost use Rattle.requests.specs.Effects.{verdict, lentEnd, memoryOf};
 use memory::DeviceAnswer;
 use memory::JobType;
+use transfer::and_part;
 use transfer::blank_part;
 use transfer::erase_part;
+use transfer::least;
 use transfer::read_part;
 use transfer::same_part;
 use transfer::write_part;
@@ -20,8 +23,21 @@ pub enum Outcome {
     Failed,
 }
 
+// n bytes of the window are written at `at` in the image: and-ed into it on a device that only clears bits, else stored there.
+fn write_on(clears: bool, image: &mut [u8], at: usize, store: &[u8], window: usize, n: usize)
+    requires { ⌜ (at + n ≤ length (now image)) × (window + n ≤ length (now store)) ⌝ }
+    ensures { λ _. ⌜ now (image .exit) ≡ put at (written clears at window n (memoryOf (now (image .entry)) (now (store .entry)))) (now (image .entry)) ⌝ }
+{
+    if clears {
+        and_part(image, at, store, window, n);
+        return;
+    }
+    write_part(image, at, store, window, n);
+}
+
 // A request that is done: its effect on the lent memory. Answers whether every byte is as the job asks.
 fn finish(
+    clears: bool,
     kind: JobType,
     at: usize,
     window: usize,
@@ -31,12 +47,12 @@ fn finish(
 ) -> bool
     requires { ⌜ (at + n ≤ length (now image)) × (lentEnd kind window n ≤ length (now store)) ⌝ }
     ensures { λ r. ⌜ r ≡ agrees kind at window n (memoryOf (now (image .entry)) (now (store .entry))) ⌝ }
-    ensures { λ _. ⌜ now (image .exit) ≡ imageAfter kind at window n (memoryOf (now (image .entry)) (now (store .entry))) ⌝ }
+    ensures { λ _. ⌜ now (image .exit) ≡ imageAfter clears kind at window n (memoryOf (now (image .entry)) (now (store .entry))) ⌝ }
     ensures { λ _. ⌜ now (store .exit) ≡ storeAfter kind at window n (memoryOf (now (image .entry)) (now (store .entry))) ⌝ }
 {
     match kind {
         JobType::Write => {
-            write_part(image, at, store, window, n);
+            write_on(clears, image, at, store, window, n);
             true
         }
         JobType::Read => {
@@ -55,12 +71,20 @@ fn finish(
 }
 
 // A request that failed has acted on its first n bytes.
-fn act_on_first(kind: JobType, at: usize, window: usize, n: usize, image: &mut [u8], store: &[u8])
+fn act_on_first(
+    clears: bool,
+    kind: JobType,
+    at: usize,
+    window: usize,
+    n: usize,
+    image: &mut [u8],
+    store: &[u8],
+)
     requires { ⌜ (at + n ≤ length (now image)) × (lentEnd kind window n ≤ length (now store)) ⌝ }
-    ensures { λ _. ⌜ now (image .exit) ≡ imageAfter kind at window n (memoryOf (now (image .entry)) (now (store .entry))) ⌝ }
+    ensures { λ _. ⌜ now (image .exit) ≡ imageAfter clears kind at window n (memoryOf (now (image .entry)) (now (store .entry))) ⌝ }
 {
     match kind {
-        JobType::Write => write_part(image, at, store, window, n),
+        JobType::Write => write_on(clears, image, at, store, window, n),
         JobType::Erase => erase_part(image, at, n),
         JobType::Read => {}
         JobType::Compare => {}
@@ -70,17 +94,9 @@ fn act_on_first(kind: JobType, at: usize, window: usize, n: usize, image: &mut [
     }
 }
 
-fn least(k: u32, n: usize) -> usize
-    ensures { λ r. ⌜ r ≡ min k n ⌝ }
-{
-    if (k as usize) < n {
-        return k as usize;
-    }
-    n
-}
-
-// A request of n bytes at `at` in the image and at `window` in the store takes its answer.
+// A request of n bytes at `at` in the image and at `window` in the store takes its answer. `clears`: its device only clears bits.
 pub fn take_effect(
+    clears: bool,
     answer: DeviceAnswer,
     kind: JobType,
     at: usize,
@@ -91,20 +107,20 @@ pub fn take_effect(
 ) -> Outcome
     requires { ⌜ (at + n ≤ length (now image)) × (lentEnd kind window n ≤ length (now store)) ⌝ }
     ensures { λ r. ⌜ verdict r ≡ verdictOf answer kind at window n (memoryOf (now (image .entry)) (now (store .entry))) ⌝ }
-    ensures { λ _. ⌜ now (image .exit) ≡ memoryAfter answer kind at window n (memoryOf (now (image .entry)) (now (store .entry))) .image ⌝ }
-    ensures { λ _. ⌜ now (store .exit) ≡ memoryAfter answer kind at window n (memoryOf (now (image .entry)) (now (store .entry))) .store ⌝ }
+    ensures { λ _. ⌜ now (image .exit) ≡ memoryAfter clears answer kind at window n (memoryOf (now (image .entry)) (now (store .entry))) .image ⌝ }
+    ensures { λ _. ⌜ now (store .exit) ≡ memoryAfter clears answer kind at window n (memoryOf (now (image .entry)) (now (store .entry))) .store ⌝ }
 {
     match answer {
         DeviceAnswer::Pending => Outcome::GoesOn,
         DeviceAnswer::Done => {
-            if finish(kind, at, window, n, image, store) {
+            if finish(clears, kind, at, window, n, image, store) {
                 return Outcome::Finished;
             }
             Outcome::Differs
         }
         DeviceAnswer::Failed(k) => {
-            let acted = least(k, n);
-            act_on_first(kind, at, window, acted, image, store);
+            let acted = least(k as usize, n);
+            act_on_first(clears, kind, at, window, acted, image, store);
             Outcome::Failed
         }
     }

@@ -119,10 +119,11 @@ fn taken_state(area: u8, polls: u16, limit: u16, outcome: Outcome) -> DeviceStat
 }
 
 // The request that a device with this poll limit runs for an area takes its answer: it is the due segment of the area's job,
-// `next` is the one behind, and the area's window starts at `window` in the store.
+// `next` is the one behind, and the area's window starts at `window` in the store. `clears`: the device only clears bits.
 pub fn take_request(
     window: u32,
     limit: u16,
+    clears: bool,
     area: u8,
     polls: u16,
     job: Job,
@@ -136,15 +137,15 @@ pub fn take_request(
     ensures { λ r. ⌜ r .job ≡ takenWith (due .length) (next .retries) (verdictOf answer (job .task .kind) (due .start .0) (window + job .processed) (due .length) (memoryOf (now (image .entry)) (now (store .entry)))) (leb limit (polls + 1)) job ⌝ }
     ensures { λ r. ⌜ r .due ≡ dueWith due next (verdictOf answer (job .task .kind) (due .start .0) (window + job .processed) (due .length) (memoryOf (now (image .entry)) (now (store .entry)))) ⌝ }
     ensures { λ r. ⌜ r .state ≡ takenState area polls (verdictOf answer (job .task .kind) (due .start .0) (window + job .processed) (due .length) (memoryOf (now (image .entry)) (now (store .entry)))) (leb limit (polls + 1)) ⌝ }
-    ensures { λ _. ⌜ now (image .exit) ≡ memoryAfter answer (job .task .kind) (due .start .0) (window + job .processed) (due .length) (memoryOf (now (image .entry)) (now (store .entry))) .image ⌝ }
-    ensures { λ _. ⌜ now (store .exit) ≡ memoryAfter answer (job .task .kind) (due .start .0) (window + job .processed) (due .length) (memoryOf (now (image .entry)) (now (store .entry))) .store ⌝ }
+    ensures { λ _. ⌜ now (image .exit) ≡ memoryAfter clears answer (job .task .kind) (due .start .0) (window + job .processed) (due .length) (memoryOf (now (image .entry)) (now (store .entry))) .image ⌝ }
+    ensures { λ _. ⌜ now (store .exit) ≡ memoryAfter clears answer (job .task .kind) (due .start .0) (window + job .processed) (due .length) (memoryOf (now (image .entry)) (now (store .entry))) .store ⌝ }
 {
     let task = job.task;
     let kind = task.kind;
     let at = due.start.0 as usize;
     let place = window as usize + job.processed as usize;
     let n = due.length as usize;
-    let outcome = take_effect(answer, kind, at, place, n, image, store);
+    let outcome = take_effect(clears, answer, kind, at, place, n, image, store);
     let dropped = is_dropped(polls, limit);
     let job = taken_job(job, due.length, next.retries, outcome, dropped);
     let due = taken_due(due, next, outcome);

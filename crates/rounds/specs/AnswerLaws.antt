@@ -69,7 +69,7 @@ module _ (p : Plan) (d : ℕ) (x : DeviceAnswer) (areas : List Area) (devices : 
     unfolding takeIn takeAnswer layoutOf
     runs-core y z h k f g = core-set areas devices a y d z h k ∙ rw (f, g, e) (sym (taken-core (layoutOf p) d a polls (requestVerdict p a (jobIn areas a) x m) (coreIn areas devices)))
 
-    pub runs-memory : requestMemory p a (jobIn areas a) x m ≡ takeIn p d x (lentTo areas devices m) .memory
+    pub runs-memory : requestMemory p d a (jobIn areas a) x m ≡ takeIn p d x (lentTo areas devices m) .memory
     unfolding takeIn
     runs-memory = rw e
 

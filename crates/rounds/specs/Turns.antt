@@ -67,11 +67,11 @@ turnState place holder x s y m Free = Free
 turnState place holder x s y m (LockedFor a) = LockedFor a
 turnState place holder x s y m (Runs a polls) = takenState a polls (turnVerdict place x s y m) (leb (holder .«poll_limit») (polls + 1))
 
-abbrev pub turnMemory : AreaRecord → Area → Segment → DeviceAnswer → Memory → DeviceState → Memory
-turnMemory place x s y m Free = m
-turnMemory place x s y m (LockedFor a) = m
-turnMemory place x s y m (Runs a polls) =
-    memoryAfter y (x .job .task .kind) (s .start .0) (place .window .start + x .job .processed) (s .length) m
+abbrev pub turnMemory : AreaRecord → DeviceRecord → Area → Segment → DeviceAnswer → Memory → DeviceState → Memory
+turnMemory place holder x s y m Free = m
+turnMemory place holder x s y m (LockedFor a) = m
+turnMemory place holder x s y m (Runs a polls) =
+    memoryAfter (holder .clears) y (x .job .task .kind) (s .start .0) (place .window .start + x .job .processed) (s .length) m
 
 -- one due segment more
 due-set : (p : Plan) (dues : List Segment) (jobs : ℕ → Job) (k : ℕ) (e : Segment) (j : Job) → k < length dues → Due p dues jobs →
@@ -119,7 +119,7 @@ module _ (p : Plan) (few : p .«area_count» ≤ 8) (d : ℕ) (y : DeviceAnswer)
       rw (f, lt-ltb a 8 (runs-known a polls e)) (found-fits p d a polls (jobIn areas a) y m (due a) (runs-due a polls e) (holds a polls e))
 
   turn-memory : (x : DeviceState) → stateIn devices d ≡ x → (k : ℕ) → k ≡ runnerOf x →
-      turnMemory (areaOf (p .areas) k) (entry k) (due k) y m x ≡ takeIn p d y (lentTo areas devices m) .memory
+      turnMemory (areaOf (p .areas) k) (deviceOf (p .devices) d) (entry k) (due k) y m x ≡ takeIn p d y (lentTo areas devices m) .memory
   turn-memory Free e k f = free-memory p d y areas devices m e
   turn-memory (LockedFor a) e k f = locked-memory p d y areas devices m a e
   turn-memory (Runs a polls) e k f =
@@ -171,11 +171,11 @@ module _ (p : Plan) (few : p .«area_count» ≤ 8) (d : ℕ) (y : DeviceAnswer)
     pub lent-turn : Lent (areaOf records k) (entry k) (due k) image store (stateIn devices d)
     lent-turn = rw records-are (turn-lent (stateIn devices d) refl k k-is)
 
-    pub memory-turn : (i t : List ℕ) → i ≡ turnMemory (areaOf records k) (entry k) (due k) y m (stateIn devices d) .image →
-        t ≡ turnMemory (areaOf records k) (entry k) (due k) y m (stateIn devices d) .store →
+    pub memory-turn : (i t : List ℕ) → i ≡ turnMemory (areaOf records k) (deviceOf holders d) (entry k) (due k) y m (stateIn devices d) .image →
+        t ≡ turnMemory (areaOf records k) (deviceOf holders d) (entry k) (due k) y m (stateIn devices d) .store →
         record { image = i; store = t } ≡ takeIn p d y (lentTo areas devices m) .memory
     memory-turn i t =
-        rw records-are (λ e f. (λ h. record { image = e h; store = f h }) ∙ turn-memory (stateIn devices d) refl k k-is)
+        rw (records-are, holders-are) (λ e f. (λ h. record { image = e h; store = f h }) ∙ turn-memory (stateIn devices d) refl k k-is)
 
     pub core-turn : length areas ≡ 8 → length devices ≡ 4 → length dues ≡ 8 → d < 4 → (r : Area) (s : Segment) (z : Device) →
         r ≡ turnArea l (p .«sub_area_count») (areaOf records k) (deviceOf holders d) (entry k) (due k) y m (stateIn devices d) →

@@ -61,8 +61,8 @@ fn take_answer(
     ensures { λ r. ⌜ r .area ≡ turnArea «sub_areas» count «area_record» «device_record» entry due answer (memoryOf (now (image .entry)) (now (store .entry))) (device .state) ⌝ }
     ensures { λ r. ⌜ r .due ≡ turnDue «sub_areas» count «area_record» entry due answer (memoryOf (now (image .entry)) (now (store .entry))) (device .state) ⌝ }
     ensures { λ r. ⌜ r .device ≡ doing (turnState «area_record» «device_record» entry due answer (memoryOf (now (image .entry)) (now (store .entry))) (device .state)) device ⌝ }
-    ensures { λ _. ⌜ now (image .exit) ≡ turnMemory «area_record» entry due answer (memoryOf (now (image .entry)) (now (store .entry))) (device .state) .image ⌝ }
-    ensures { λ _. ⌜ now (store .exit) ≡ turnMemory «area_record» entry due answer (memoryOf (now (image .entry)) (now (store .entry))) (device .state) .store ⌝ }
+    ensures { λ _. ⌜ now (image .exit) ≡ turnMemory «area_record» «device_record» entry due answer (memoryOf (now (image .entry)) (now (store .entry))) (device .state) .image ⌝ }
+    ensures { λ _. ⌜ now (store .exit) ≡ turnMemory «area_record» «device_record» entry due answer (memoryOf (now (image .entry)) (now (store .entry))) (device .state) .store ⌝ }
 {
     let state = device.state;
     let suspended = device.suspended;
@@ -85,6 +85,7 @@ fn take_answer(
             let taken = take_request(
                 area_record.window.start,
                 device_record.poll_limit,
+                device_record.clears,
                 area,
                 polls,
                 job,

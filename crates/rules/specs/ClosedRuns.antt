@@ -1,5 +1,5 @@
 -- Runs of the rules where one is easy to get wrong, as the bench prints them. The expected entries are those of the independent model.
-use Prim.Native.Nat.{ℕ}
+use Prim.Native.Nat.{ℕ, _+_}
 use mathlib.Core.Path.{_≡_, refl}
 use mathlib.Core.List.{List, [], _∷_, _++_}
 use lib.ListN.{replicate}
@@ -10,6 +10,7 @@ use Rattle.plan.specs.Examples.{planT, planE, device, area, subArea, sizes}
 use Rattle.rules.specs.Session.{Entry, number, devices, info, Line, call, answers, nothing, locked, request}
 use Rattle.arith.specs.Bounded as Bounded
 use Rattle.arith.specs.FirstNo as FirstNo
+use Rattle.arith.specs.Listed as Listed
 use Rattle.arith.specs.Multiples as Multiples
 use Rattle.arith.specs.Tables as Tables
 use Rattle.arith.specs.Parts as Parts
@@ -53,6 +54,18 @@ abbrev pub prints : List ℕ → ℕ → List Line → List Entry
 prints plan n lines =
     Session.play (Records.planOf plan) lines
     (record { history = History.start; memory = record { image = replicate n 255; store = replicate 32 0 }; printed = [] }) .printed
+
+-- Area a writes 4 zeros at x, reads 4 bytes of 255 behind them and writes these over the zeros. When that job is over, n bytes are compared.
+abbrev rewrites : ℕ → ℕ → List Line → ℕ → List Line
+rewrites a x ends n =
+    job Write a x 4 ∷ answers (Pending ∷ []) ∷ answers (Done ∷ []) ∷ job Read a (x + 4) 4 ∷ answers (Pending ∷ []) ∷ answers (Done ∷ [])
+    ∷ job Write a x 4 ∷ answers (Pending ∷ []) ∷ ends ++ job Compare a x n ∷ answers (Pending ∷ []) ∷ answers (Done ∷ []) ∷ ask a ∷ []
+
+-- what that prints, where x is at y in the image
+abbrev rewritesPrint : ℕ → ℕ → List Entry → ℕ → Entry → List Entry
+rewritesPrint a y ends n compared =
+    number 0 ∷ devices (request a 1 y 4 ∷ []) ∷ devices (nothing ∷ []) ∷ number 0 ∷ devices (request a 2 (y + 4) 4 ∷ []) ∷ devices (nothing ∷ [])
+    ∷ number 0 ∷ devices (request a 1 y 4 ∷ []) ∷ ends ++ number 0 ∷ devices (request a 3 y n ∷ []) ∷ devices (nothing ∷ []) ∷ compared ∷ []
 
 pub closed-runs :
     -- A request that is dropped at the poll limit is due again where a retry is left, and may start in the same round.
@@ -130,5 +143,26 @@ pub closed-runs :
     -- An erase that was cancelled while it ran can be suspended too; it is over when its resumed request ends.
     × (prints (planE 83 3) 64 (job Erase 0 0 16 ∷ answers (Pending ∷ []) ∷ cancel 0 ∷ job Read 1 256 4 ∷ answers (Pending ∷ []) ∷ answers (Done ∷ []) ∷ ask 0 ∷ answers (Failed 0 ∷ []) ∷ ask 0 ∷ [])
     ≡ number 0 ∷ devices (request 0 4 0 16 ∷ []) ∷ number 0 ∷ number 0 ∷ devices (request 1 2 16 4 ∷ []) ∷ devices (request 0 4 0 16 ∷ []) ∷ info 0 0 2 1 0 0 ∷ devices (nothing ∷ []) ∷ info 3 0 2 1 0 0 ∷ [])
-unfolding Bounded.every Bounded.some Bounded.sum FirstNo.firstNo Multiples.multiple Tables.table Parts.part Parts.put Parts.upd Number.numberAt Records.deviceAt Records.areaAt Records.granularityAt Records.subAreaAt Records.isRecord Records.recordsUpTo Records.recordsFrom Records.deviceCount Records.areasStart Records.areaCount Records.subAreasStart Records.subAreaCount Records.recordsEnd Records.recordLayout Records.planOf Records.emptyPlan Questions.apart Questions.wholeRecords Questions.countsFit Questions.deviceDue Questions.deviceJoins Questions.devicesJoin Questions.windowsApart Questions.windowsFit Questions.granularityFits Questions.sizesFit Questions.insideDevice Questions.isPlaced Questions.allPlaced Questions.sizeIn Questions.spaceFits Questions.spacesFit Questions.subAreasApart Questions.recordQuestions Questions.planQuestions Questions.loadNumber Questions.loadedPlan Mapping.find Mapping.mapped Segments.burstOrUnit Segments.segmentAt Segments.cut Segments.segmentsFrom Segments.spansAfter Segments.spans Segments.ownSum Segments.belowSum Segments.ownBound Segments.belowBound Ranks.agesAfter Ranks.rankAbove Layout.layoutOf Machine.jobFailed Machine.jobFinished Machine.jobDiffers Machine.takeAnswer Machine.firstHalf Machine.ready Machine.best Machine.start Machine.secondHalf Machine.behind Machine.cancel Machine.begin Machine.release Admission.isInside Admission.isAligned Admission.fitsWindow Admission.onOneDevice Admission.rangeDevice Admission.jobQuestions Admission.releaseQuestions Admission.cancelQuestions Admission.infoQuestions Admission.memoryInfoQuestions Admission.imageFits Admission.storeReaches Admission.jobNumber Admission.releaseNumber Admission.cancelNumber Admission.infoNumber Admission.memoryInfoNumber Admission.roundNumber Admission.admits Round.takeIn Round.takeAll Round.roundHalves History.start History.roundOf History.submitted History.step History.run Session.shownTo Session.entryOf Session.playLine Session.play
-closed-runs = (refl, refl, refl, refl, refl, refl, refl, refl, refl, refl, refl, refl, refl, refl, refl, refl, refl, refl, refl, refl, refl, refl, refl, refl, refl)
+    -- Zeros stay zeros under a write of 255 on a chip that only clears bits: the comparison finds them. Others store.
+    × (prints (planE 70 3) 64 (rewrites 0 0 (answers (Done ∷ []) ∷ []) 4) ≡ rewritesPrint 0 0 (devices (nothing ∷ []) ∷ []) 4 (info 2 0 1 0 0 0))
+    × (prints (planE 83 3) 64 (rewrites 0 0 (answers (Done ∷ []) ∷ []) 4) ≡ rewritesPrint 0 0 (devices (nothing ∷ []) ∷ []) 4 (info 0 4 1 0 0 0))
+    -- So do the first bytes of a failed write.
+    × (prints (planE 70 3) 64 (rewrites 0 0 (answers (Failed 2 ∷ []) ∷ ask 0 ∷ []) 2)
+    ≡ rewritesPrint 0 0 (devices (nothing ∷ []) ∷ info 1 0 1 0 0 0 ∷ []) 2 (info 2 0 1 0 0 0))
+    × (prints (planE 83 3) 64 (rewrites 0 0 (answers (Failed 2 ∷ []) ∷ ask 0 ∷ []) 2)
+    ≡ rewritesPrint 0 0 (devices (nothing ∷ []) ∷ info 1 0 1 0 0 0 ∷ []) 2 (info 0 2 1 0 0 0))
+    -- Also before a retry,
+    × (prints (planE 70 3) 64 (rewrites 1 256 (answers (Failed 2 ∷ []) ∷ answers (Failed 0 ∷ []) ∷ ask 1 ∷ []) 2)
+    ≡ rewritesPrint 1 16 (devices (request 1 1 16 4 ∷ []) ∷ devices (nothing ∷ []) ∷ info 1 0 2 0 0 0 ∷ []) 2 (info 2 0 1 0 0 0))
+    × (prints (planE 83 3) 64 (rewrites 1 256 (answers (Failed 2 ∷ []) ∷ answers (Failed 0 ∷ []) ∷ ask 1 ∷ []) 2)
+    ≡ rewritesPrint 1 16 (devices (request 1 1 16 4 ∷ []) ∷ devices (nothing ∷ []) ∷ info 1 0 2 0 0 0 ∷ []) 2 (info 0 2 1 0 0 0))
+    -- and of a job that was cancelled.
+    × (prints (planE 70 3) 64 (rewrites 1 256 (cancel 1 ∷ answers (Failed 2 ∷ []) ∷ ask 1 ∷ []) 2)
+    ≡ rewritesPrint 1 16 (number 0 ∷ devices (nothing ∷ []) ∷ info 3 0 1 0 0 0 ∷ []) 2 (info 2 0 1 0 0 0))
+    × (prints (planE 83 3) 64 (rewrites 1 256 (cancel 1 ∷ answers (Failed 2 ∷ []) ∷ ask 1 ∷ []) 2)
+    ≡ rewritesPrint 1 16 (number 0 ∷ devices (nothing ∷ []) ∷ info 3 0 1 0 0 0 ∷ []) 2 (info 0 2 1 0 0 0))
+    -- An erase gives way there too.
+    × (prints (planE 70 3) 64 (job Erase 0 0 16 ∷ answers (Pending ∷ []) ∷ job Read 1 256 4 ∷ answers (Pending ∷ []) ∷ answers (Done ∷ []) ∷ answers (Done ∷ []) ∷ ask 0 ∷ ask 1 ∷ [])
+    ≡ number 0 ∷ devices (request 0 4 0 16 ∷ []) ∷ number 0 ∷ devices (request 1 2 16 4 ∷ []) ∷ devices (request 0 4 0 16 ∷ []) ∷ devices (nothing ∷ []) ∷ info 0 16 2 1 0 0 ∷ info 0 4 1 0 0 0 ∷ [])
+unfolding Bounded.every Bounded.some Bounded.sum FirstNo.firstNo Listed.listed Multiples.multiple Tables.table Parts.part Parts.put Parts.upd Number.numberAt Records.deviceAt Records.areaAt Records.granularityAt Records.subAreaAt Records.isRecord Records.recordsUpTo Records.recordsFrom Records.deviceCount Records.areasStart Records.areaCount Records.subAreasStart Records.subAreaCount Records.recordsEnd Records.recordLayout Records.planOf Records.emptyPlan Questions.apart Questions.wholeRecords Questions.countsFit Questions.deviceDue Questions.deviceJoins Questions.devicesJoin Questions.windowsApart Questions.windowsFit Questions.granularityFits Questions.sizesFit Questions.insideDevice Questions.isPlaced Questions.allPlaced Questions.sizeIn Questions.spaceFits Questions.spacesFit Questions.subAreasApart Questions.recordQuestions Questions.planQuestions Questions.loadNumber Questions.loadedPlan Mapping.find Mapping.mapped Segments.burstOrUnit Segments.segmentAt Segments.cut Segments.segmentsFrom Segments.spansAfter Segments.spans Segments.ownSum Segments.belowSum Segments.ownBound Segments.belowBound Ranks.agesAfter Ranks.rankAbove Layout.layoutOf Machine.jobFailed Machine.jobFinished Machine.jobDiffers Machine.takeAnswer Machine.firstHalf Machine.ready Machine.best Machine.start Machine.secondHalf Machine.behind Machine.cancel Machine.begin Machine.release Admission.isInside Admission.isAligned Admission.fitsWindow Admission.onOneDevice Admission.rangeDevice Admission.jobQuestions Admission.releaseQuestions Admission.cancelQuestions Admission.infoQuestions Admission.memoryInfoQuestions Admission.imageFits Admission.storeReaches Admission.jobNumber Admission.releaseNumber Admission.cancelNumber Admission.infoNumber Admission.memoryInfoNumber Admission.roundNumber Admission.admits Round.takeIn Round.takeAll Round.roundHalves History.start History.roundOf History.submitted History.step History.run Session.shownTo Session.entryOf Session.playLine Session.play
+closed-runs = (refl, refl, refl, refl, refl, refl, refl, refl, refl, refl, refl, refl, refl, refl, refl, refl, refl, refl, refl, refl, refl, refl, refl, refl, refl, refl, refl, refl, refl, refl, refl, refl, refl, refl)

@@ -9,6 +9,7 @@ use borrow.Author.Tests.{ne-eqb}
 use lib.Dec.{eqb}
 use lib.ListN.{length, getD}
 use Rattle.arith.specs.Cases.{pick}
+use Rattle.arith.specs.Listed.{listed-at}
 use Rattle.memory.specs.declared.DeviceAnswer.{DeviceAnswer}
 use Rattle.memory.specs.declared.DeviceAnswer.the-variants as Answers
 use Rattle.plan.specs.Questions.{areaOf}
@@ -22,7 +23,6 @@ use Rattle.rules.specs.Admission.{roundNumber, admits}
 use Rattle.rules.specs.Changes.{Change, Within, MadeAll, changed-by}
 use Rattle.rules.specs.History.{Call, submit, releases, cancels, asks, round, History, step}
 use Rattle.rules.specs.Layout.{layoutOf}
-use Rattle.rules.specs.ListLaws.{listed-at}
 use Rattle.rules.specs.Machine.{Core}
 use Rattle.rules.specs.Memory.{Memory}
 use Rattle.rules.specs.Reach.{actedBytes, broughtBytes, requestOf, roundMemory, ImageActed, imageValue, StoreActed, storeValue}
@@ -59,10 +59,10 @@ memory-kept p (round answers n) h m (inr e) = absurd (true≢false e)
 
 -- where device d runs area a, the changes made are those of area a's request too
 made-by : (p : Plan) (c : Core) (change : ℕ → Request → Change) (n : ℕ) (l l' : List ℕ) → MadeAll (λ d. change d (requestAt p c d)) n l l' →
-    (d a q x : ℕ) → d < n → c .devices d .state ≡ Runs a q → Within (change d (requestFor p a (c .jobs a))) x →
-    getD l' x 0 ≡ change d (requestFor p a (c .jobs a)) .value x
+    (d a q x : ℕ) → d < n → c .devices d .state ≡ Runs a q → Within (change d (requestFor p d a (c .jobs a))) x →
+    getD l' x 0 ≡ change d (requestFor p d a (c .jobs a)) .value x
 made-by p c change n l l' all d a q x h e =
-    subst (λ s. Within (change d (requestOn p s (c .jobs))) x → getD l' x 0 ≡ change d (requestOn p s (c .jobs)) .value x) e (all .inside d h x)
+    subst (λ s. Within (change d (requestOn p d s (c .jobs))) x → getD l' x 0 ≡ change d (requestOn p d s (c .jobs)) .value x) e (all .inside d h x)
 
 module _ (p : Plan) (c : Core) (answers : List DeviceAnswer) where
   -- the bytes that device d's request changes are bytes that it acts on
@@ -106,7 +106,7 @@ module _ (p : Plan) (w : WellFormed p) (c : Core) (reach : Reachable (layoutOf p
   image-reach x d h =
       let a = h .area in
       let g = placed p w c reach cuts (h .runs) in
-      let own = image-own (answerOf answers d) (requestFor p a (c .jobs a)) x (h .inside) in
+      let own = image-own (answerOf answers d) (requestFor p d a (c .jobs a)) x (h .inside) in
       let k = x - requestOf p c a .start .0 in
       (c .jobs a .processed + k, omega (arith, g .good .length-most), omega (arith, request-byte g k (omega arith)))
 
@@ -116,7 +116,7 @@ module _ (p : Plan) (w : WellFormed p) (c : Core) (reach : Reachable (layoutOf p
       × (c .jobs (h .area) .task .length ≤ areaOf (p .areas) (h .area) .window .length)
   store-reach x d h =
       let g = placed p w c reach cuts (h .runs) in
-      let own = store-own (answerOf answers d) (requestFor p (h .area) (c .jobs (h .area))) x (h .inside) in
+      let own = store-own (answerOf answers d) (requestFor p d (h .area) (c .jobs (h .area))) x (h .inside) in
       (omega (arith, g .good .length-most, own .1), g .window (own .0))
 
   module _ (m : Memory) (accepted : roundNumber p (m .image) (m .store) ≡ 0) (done : ℕ → List Segment) where
@@ -125,7 +125,7 @@ module _ (p : Plan) (w : WellFormed p) (c : Core) (reach : Reachable (layoutOf p
     round-after = taken p w c reach cuts answers m accepted done (p .«device_count») .after
 
     -- an image byte that is acted on becomes what the rules say
-    image-acted : (x d : ℕ) (h : ImageActed p c answers x d) → getD (roundMemory p c answers m done .image) x 0 ≡ imageValue p c m (h .area) x
+    image-acted : (x d : ℕ) (h : ImageActed p c answers x d) → getD (roundMemory p c answers m done .image) x 0 ≡ imageValue p c m d (h .area) x
     image-acted x d h =
         made-by p c (λ e r. imageChange (answerOf answers e) r m) _ _ _ (round-after .image) d (h .area) (h .polls) x (h .known) (h .runs) (h .inside)
 

@@ -24,11 +24,11 @@ use Rattle.rules.specs.EndsSo.{ends-so}
 use Rattle.rules.specs.History.{submit, cancels, round, noTally, History, submitted, step}
 use Rattle.rules.specs.Layout.{layoutOf}
 use Rattle.rules.specs.Machine.{Core, isPending, isCancelling, need, holds, begin, cancel}
-use Rattle.rules.specs.Memory.{Memory}
+use Rattle.rules.specs.Memory.{Memory, writtenByte}
 use Rattle.rules.specs.PlanLaws.{admitted}
 use Rattle.rules.specs.Reach.{actedBytes, broughtBytes, imageBytes, windowBytes, actedByte, requestOf}
 use Rattle.rules.specs.Reachable.{Reachable}
-use Rattle.rules.specs.Round.{answerOf, windowPlace}
+use Rattle.rules.specs.Round.{answerOf, windowPlace, clearsOnly}
 use Rattle.rules.specs.Session.{memoryOf}
 use Rattle.rules.specs.Statements.{RoundChanges, Demand1, Demand2}
 
@@ -42,15 +42,15 @@ module _ (p : Plan) (h : History) (first : Demand1 p h) (answers : List DeviceAn
   -- a write that is done has acted on all of its bytes
   write-done : h .core .jobs a .task .kind ≡ Write → (k : ℕ) → k < requestOf p (h .core) a .length →
       getD (memoryOf p (round answers m) h m .image) (requestOf p (h .core) a .start .0 + k) 0
-      ≡ getD (m .store) (windowPlace p a (h .core .jobs a) + k) 0
+      ≡ writtenByte (clearsOnly p d) (getD (m .image) (requestOf p (h .core) a .start .0 + k) 0) (getD (m .store) (windowPlace p a (h .core .jobs a) + k) 0)
   write-done e k l =
       let s = requestOf p (h .core) a in
       let x = s .start .0 + k in
       let all = ap (λ y. actedBytes y (h .core .jobs a .task .kind) (s .length)) done ∙ ap (λ t. imageBytes t (s .length)) e in
       let offset : x - s .start .0 ≡ k = omega arith in
       changes .image-acted x d (record { known = known; area = a; polls = polls; runs = runs; inside = omega (arith, all) })
-      ∙ ap (λ t. actedByte t (getD (m .store) (windowPlace p a (h .core .jobs a) + (x - s .start .0)) 0)) e
-      ∙ ap (λ i. getD (m .store) (windowPlace p a (h .core .jobs a) + i) 0) offset
+      ∙ ap (λ t. actedByte (clearsOnly p d) t (getD (m .image) x 0) (getD (m .store) (windowPlace p a (h .core .jobs a) + (x - s .start .0)) 0)) e
+      ∙ ap (λ i. writtenByte (clearsOnly p d) (getD (m .image) x 0) (getD (m .store) (windowPlace p a (h .core .jobs a) + i) 0)) offset
 
   -- a read that is done has brought all of them
   read-done : h .core .jobs a .task .kind ≡ Read → (k : ℕ) → k < requestOf p (h .core) a .length →

@@ -31,6 +31,7 @@ pub mod Calls
 pub mod Ranked
 pub mod Runs
 pub mod Demand3
+pub mod WrittenLaws
 pub mod ListLaws
 pub mod Changes
 pub mod RequestBytes

@@ -16,8 +16,8 @@ use Rattle.rules.specs.Admission.{jobNumber, releaseNumber, cancelNumber
 use Rattle.rules.specs.History.{Query, status, result, processed, jobInfo, memoryInfo, Call, submit, releases, cancels, asks, round, History}
 use Rattle.rules.specs.Layout.{layoutOf}
 use Rattle.rules.specs.Machine.{Core, due}
-use Rattle.rules.specs.Memory.{Memory}
-use Rattle.rules.specs.Round.{answerOf, windowPlace, takeAll}
+use Rattle.rules.specs.Memory.{Memory, writtenByte}
+use Rattle.rules.specs.Round.{answerOf, windowPlace, clearsOnly, takeAll}
 
 -- How many of n image bytes a job type acts on. "Done compare or blank check changes no memory"
 abbrev pub imageBytes : JobType → ℕ → ℕ
@@ -52,16 +52,15 @@ broughtBytes Answers.Pending k n = 0
 broughtBytes Answers.Done k n = windowBytes k n
 broughtBytes (Answers.Failed b) k n = 0
 
--- What an image byte that is acted on becomes, where b is the window byte. "Done write: the image part becomes the window
--- bytes. Done erase: 255 throughout." The other job types act on none.
-abbrev pub actedByte : JobType → ℕ → ℕ
-actedByte Write b = b
-actedByte Erase b = 255
-actedByte Read b = 0
-actedByte Compare b = 0
-actedByte BlankCheck b = 0
-actedByte Lock b = 0
-actedByte NoJob b = 0
+-- What an image byte that is acted on becomes, where b is the window byte. "Done erase: 255 throughout." The other job types act on none.
+abbrev pub actedByte : Bool → JobType → ℕ → ℕ → ℕ
+actedByte clears Write old b = writtenByte clears old b
+actedByte clears Erase old b = 255
+actedByte clears Read old b = 0
+actedByte clears Compare old b = 0
+actedByte clears BlankCheck old b = 0
+actedByte clears Lock old b = 0
+actedByte clears NoJob old b = 0
 
 -- the request of area a, where it runs: the segment that is due
 abbrev pub requestOf : Plan → Core → ℕ → Segment
@@ -80,11 +79,11 @@ pub record ImageActed (p : Plan) (c : Core) (answers : List DeviceAnswer) (x d :
   pub runs : c .devices d .state ≡ Runs area polls
   pub inside : Among (requestOf p c area .start .0) (actedBytes (answerOf answers d) (c .jobs area .task .kind) (requestOf p c area .length)) x
 
--- It becomes this: "Window bytes are those of this moment, at the processed length from the window's start". Memory m is that
--- before the round.
-abbrev pub imageValue : Plan → Core → Memory → ℕ → ℕ → ℕ
-imageValue p c m a x =
-    actedByte (c .jobs a .task .kind) (getD (m .store) (windowPlace p a (c .jobs a) + (x - requestOf p c a .start .0)) 0)
+-- It becomes this, where device d runs area a's request: "Window bytes are those of this moment, at the processed length from the window's
+-- start". Memory m is that before the round, so the old byte is too.
+abbrev pub imageValue : Plan → Core → Memory → ℕ → ℕ → ℕ → ℕ
+imageValue p c m d a x =
+    actedByte (clearsOnly p d) (c .jobs a .task .kind) (getD (m .image) x 0) (getD (m .store) (windowPlace p a (c .jobs a) + (x - requestOf p c a .start .0)) 0)
 
 -- In a round with these answers, byte x of the store is brought by the request that device d runs.
 pub record StoreActed (p : Plan) (c : Core) (answers : List DeviceAnswer) (x d : ℕ) : Type 0 where

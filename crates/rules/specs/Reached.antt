@@ -70,7 +70,7 @@ tallies :
     × (belowMost p w 2 ≡ 4)
     × (p .«device_count» ≡ 1)
     × (Layout.layoutOf p .suspends 0 ≡ true))
-unfolding Bounded.every Bounded.sum FirstNo.firstNo Multiples.multiple Tables.table Parts.upd Number.numberAt Records.deviceAt Records.areaAt Records.granularityAt Records.subAreaAt Records.isRecord Records.recordsUpTo Records.recordsFrom Records.deviceCount Records.areasStart Records.areaCount Records.subAreasStart Records.subAreaCount Records.planOf Questions.sizeIn Mapping.find Mapping.mapped Segments.burstOrUnit Segments.segmentAt Segments.cut Segments.segmentsFrom Segments.spansAfter Segments.spans Segments.ownSum Segments.belowSum Segments.ownBound Segments.belowBound Ranks.agesAfter Ranks.rankAbove Layout.layoutOf Machine.jobFailed Machine.jobFinished Machine.takeAnswer Machine.ready Machine.best Machine.start Machine.secondHalf Machine.behind Machine.begin Admission.isInside Admission.isAligned Admission.fitsWindow Admission.jobQuestions Admission.imageFits Admission.storeReaches Admission.jobNumber Admission.roundNumber Round.takeIn Round.takeAll Round.roundHalves History.start History.roundOf History.submitted History.step History.run
+unfolding Bounded.every Bounded.some Bounded.sum FirstNo.firstNo Multiples.multiple Tables.table Parts.upd Number.numberAt Records.deviceAt Records.areaAt Records.granularityAt Records.subAreaAt Records.isRecord Records.recordsUpTo Records.recordsFrom Records.deviceCount Records.areasStart Records.areaCount Records.subAreasStart Records.subAreaCount Records.planOf Questions.sizeIn Mapping.find Mapping.mapped Segments.burstOrUnit Segments.segmentAt Segments.cut Segments.segmentsFrom Segments.spansAfter Segments.spans Segments.ownSum Segments.belowSum Segments.ownBound Segments.belowBound Ranks.agesAfter Ranks.rankAbove Layout.layoutOf Machine.jobFailed Machine.jobFinished Machine.takeAnswer Machine.ready Machine.best Machine.start Machine.secondHalf Machine.behind Machine.begin Admission.isInside Admission.isAligned Admission.fitsWindow Admission.jobQuestions Admission.imageFits Admission.storeReaches Admission.jobNumber Admission.roundNumber Round.takeIn Round.takeAll Round.roundHalves History.start History.roundOf History.submitted History.step History.run
 tallies = ((refl, refl, refl, refl, refl, refl), (refl, refl, refl, refl, refl, refl))
 
 -- a plan of one device

@@ -1,9 +1,11 @@
 -- What the requests of a round do to image and store, byte by byte.
 use Prim.Native.Nat.{ℕ, suc, _+_, _-_, _≤_, _<_, min}
-use mathlib.Core.Bool.{true}
-use mathlib.Core.Path.{_≡_, refl}
+use mathlib.Core.Bool.{Bool, true}
+use mathlib.Core.Path.{_≡_, refl, _∙_}
 use native.Mathlib.Omega.{arith}
 use lib.ListN.{length, getD, length-replicate, getD-replicate}
+use Rattle.arith.specs.Listed.{listed-at, length-listed}
+use Rattle.arith.specs.Parts.{part-at, length-part}
 use Rattle.memory.specs.declared.DeviceAnswer.{DeviceAnswer}
 use Rattle.memory.specs.declared.DeviceAnswer.the-variants as Answers
 use Rattle.memory.specs.declared.JobType.{JobType}
@@ -11,12 +13,13 @@ use Rattle.memory.specs.declared.JobType.the-variants.{NoJob, Write, Read, Comp
 use Rattle.plan.specs.WellFormed.{Among}
 use Rattle.rules.specs.Admission.{usesWindow}
 use Rattle.rules.specs.Changes.{Change, Within, Made, MadeAll, made-none, made-put, made-same, all-more}
-use Rattle.rules.specs.ListLaws.{part-at, length-part}
-use Rattle.rules.specs.Memory.{Memory, imageAfter, storeAfter, memoryAfter}
+use Rattle.rules.specs.Memory.{Memory, writtenByte, written, imageAfter, storeAfter, memoryAfter}
 use Rattle.rules.specs.Reach.{imageBytes, windowBytes, actedBytes, broughtBytes, actedByte}
 
 -- a request: `length` bytes from `start` on of the image, and from `place` on of the store
 pub record Request : Type 0 where
+  -- is its device one that only clears bits?
+  pub clears : Bool
   pub kind : JobType
   pub start : ℕ
   pub place : ℕ
@@ -24,7 +27,7 @@ pub record Request : Type 0 where
 
 -- what it does there with an answer
 abbrev pub answered : DeviceAnswer → Request → Memory → Memory
-answered x r m = memoryAfter x (r .kind) (r .start) (r .place) (r .length) m
+answered x r m = memoryAfter (r .clears) x (r .kind) (r .start) (r .place) (r .length) m
 
 -- the change to the image, read from memory m
 abbrev pub imageChange : DeviceAnswer → Request → Memory → Change
@@ -32,7 +35,7 @@ imageChange x r m =
     record {
       start = r .start;
       count = actedBytes x (r .kind) (r .length);
-      value = λ i. actedByte (r .kind) (getD (m .store) (r .place + (i - r .start)) 0);
+      value = λ i. actedByte (r .clears) (r .kind) (getD (m .image) i 0) (getD (m .store) (r .place + (i - r .start)) 0);
     }
 
 -- the change to the store, read from memory m
@@ -55,18 +58,27 @@ pub record Apart (q r : Request) : Type 0 where
   pub store : usesWindow (q .kind) ≡ true → usesWindow (r .kind) ≡ true → (x : ℕ) →
       Among (q .place) (q .length) x → Among (r .place) (r .length) x → ⊥
 
+-- byte i of the image, where a write of n bytes at s leaves its own
+written-at : (c : Bool) (s w n : ℕ) (m : Memory) (i : ℕ) → Among s n i →
+    getD (written c s w n m) (i - s) 0 ≡ writtenByte c (getD (m .image) i 0) (getD (m .store) (w + (i - s)) 0)
+written-at c s w n m i u =
+    let old : s + (0 + (i - s)) ≡ i = omega arith in
+    let new : w + (0 + (i - s)) ≡ w + (i - s) = omega arith in
+    listed-at 0 (λ j. writtenByte c (getD (m .image) (s + j) 0) (getD (m .store) (w + j) 0)) 0 n (i - s) (omega arith)
+    ∙ (λ j. writtenByte c (getD (m .image) (old j) 0) (getD (m .store) (new j) 0))
+
 -- what a done request of n bytes does to the image, as a change
-image-after : (k : JobType) (s w n : ℕ) (m : Memory) → s + n ≤ length (m .image) → (usesWindow k ≡ true → w + n ≤ length (m .store)) →
-    Made (record { start = s; count = imageBytes k n; value = λ i. actedByte k (getD (m .store) (w + (i - s)) 0) }) (m .image) (imageAfter k s w n m)
-image-after Write s w n m h g =
-    made-put _ n _ (m .image) (length-part w n (m .store) (g refl)) refl h (λ i u. part-at 0 w n (m .store) (i - s) (omega arith))
-image-after Erase s w n m h g =
+image-after : (c : Bool) (k : JobType) (s w n : ℕ) (m : Memory) → s + n ≤ length (m .image) →
+    Made (record { start = s; count = imageBytes k n; value = λ i. actedByte c k (getD (m .image) i 0) (getD (m .store) (w + (i - s)) 0) })
+    (m .image) (imageAfter c k s w n m)
+image-after c Write s w n m h = made-put _ n _ (m .image) (length-listed _ 0 n) refl h (λ i u. written-at c s w n m i u)
+image-after c Erase s w n m h =
     made-put _ n _ (m .image) (length-replicate n 255) refl h (λ i u. getD-replicate n (i - s) 255 0 (omega arith))
-image-after Read s w n m h g = made-none _ (m .image) refl
-image-after Compare s w n m h g = made-none _ (m .image) refl
-image-after BlankCheck s w n m h g = made-none _ (m .image) refl
-image-after Lock s w n m h g = made-none _ (m .image) refl
-image-after NoJob s w n m h g = made-none _ (m .image) refl
+image-after c Read s w n m h = made-none _ (m .image) refl
+image-after c Compare s w n m h = made-none _ (m .image) refl
+image-after c BlankCheck s w n m h = made-none _ (m .image) refl
+image-after c Lock s w n m h = made-none _ (m .image) refl
+image-after c NoJob s w n m h = made-none _ (m .image) refl
 
 -- and to the store
 store-after : (k : JobType) (s w n : ℕ) (m : Memory) → s + n ≤ length (m .image) → (usesWindow k ≡ true → w + n ≤ length (m .store)) →
@@ -83,9 +95,8 @@ store-after NoJob s w n m h g = made-none _ (m .store) refl
 -- with any answer, a request makes the one change to the image
 image-made : (x : DeviceAnswer) (r : Request) (m : Memory) → Fits m r → Made (imageChange x r m) (m .image) (answered x r m .image)
 image-made Answers.Pending r m f = made-none _ (m .image) refl
-image-made Answers.Done r m f = image-after (r .kind) (r .start) (r .place) (r .length) m (f .image) (f .store)
-image-made (Answers.Failed b) r m f =
-    image-after (r .kind) (r .start) (r .place) (min b (r .length)) m (omega arith) (λ e. omega (arith, f .store e))
+image-made Answers.Done r m f = image-after (r .clears) (r .kind) (r .start) (r .place) (r .length) m (f .image)
+image-made (Answers.Failed b) r m f = image-after (r .clears) (r .kind) (r .start) (r .place) (min b (r .length)) m (omega (arith, f .image))
 
 -- and the other to the store
 store-made : (x : DeviceAnswer) (r : Request) (m : Memory) → Fits m r → Made (storeChange x r m) (m .store) (answered x r m .store)
@@ -136,15 +147,15 @@ store-own x r i w =
     let f = brought-few x (r .kind) (r .length) (i - r .place) (omega arith) in
     (f .0, (w .0, omega arith))
 
--- an image byte becomes the same where the window has the same byte
-same-byte : (k : JobType) (a b : ℕ) → (usesWindow k ≡ true → a ≡ b) → actedByte k a ≡ actedByte k b
-same-byte Write a b f = f refl
-same-byte Erase a b f = refl
-same-byte Read a b f = refl
-same-byte Compare a b f = refl
-same-byte BlankCheck a b f = refl
-same-byte Lock a b f = refl
-same-byte NoJob a b f = refl
+-- an image byte becomes the same where it was the same and the window has the same byte
+same-byte : (c : Bool) (k : JobType) (o u a b : ℕ) → o ≡ u → (usesWindow k ≡ true → a ≡ b) → actedByte c k o a ≡ actedByte c k u b
+same-byte c Write o u a b e f = λ i. writtenByte c (e i) (f refl i)
+same-byte c Erase o u a b e f = refl
+same-byte c Read o u a b e f = refl
+same-byte c Compare o u a b e f = refl
+same-byte c BlankCheck o u a b e f = refl
+same-byte c Lock o u a b e f = refl
+same-byte c NoJob o u a b e f = refl
 
 -- From memory m to m': the requests of the devices below n have been answered. What they change is said by m alone.
 pub record After (r : ℕ → Request) (answer : ℕ → DeviceAnswer) (m : Memory) (n : ℕ) (m' : Memory) : Type 0 where
@@ -173,14 +184,14 @@ module _ (r : ℕ → Request) (answer : ℕ → DeviceAnswer) (m : Memory)
           store = λ e. omega (arith, fits n .store e, a .store .same-length);
         }
 
-    -- it finds its window bytes as they were
+    -- it finds its image and window bytes as they were
     same-image : (i : ℕ) → Within (imageChange (answer n) (r n) m) i →
         imageChange (answer n) (r n) m' .value i ≡ imageChange (answer n) (r n) m .value i
     same-image i w =
         let own = image-own (answer n) (r n) i w in
-        same-byte (r n .kind) _ _ (λ e. a .store .outside _ (store-free e _ (omega arith)))
+        same-byte (r n .clears) (r n .kind) _ _ _ _ (a .image .outside i (image-free i own)) (λ e. a .store .outside _ (store-free e _ (omega arith)))
 
-    -- and its image bytes
+    -- the same for what it brings to the store
     same-store : (i : ℕ) → Within (storeChange (answer n) (r n) m) i →
         storeChange (answer n) (r n) m' .value i ≡ storeChange (answer n) (r n) m .value i
     same-store i w =

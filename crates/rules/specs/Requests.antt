@@ -1,6 +1,6 @@
 -- The requests that run in a reachable state: their bytes are bytes of image and store, and no two share one.
 use Prim.Native.Nat.{ℕ, zero, suc, _-_, _≤_, _<_}
-use mathlib.Core.Bool.{Bool, true}
+use mathlib.Core.Bool.{Bool, true, false}
 use mathlib.Core.Path.{_≡_, refl, sym, ap, subst, _∙_}
 use native.Mathlib.Numerals.{add-one}
 use native.Mathlib.Omega.{arith}
@@ -29,37 +29,38 @@ use Rattle.rules.specs.PlanLaws.{admitted}
 use Rattle.rules.specs.Reach.{requestOf}
 use Rattle.rules.specs.Reachable.{Running, StateFits, Reachable}
 use Rattle.rules.specs.RequestBytes.{Request, answered, Fits, Apart}
-use Rattle.rules.specs.Round.{windowPlace, memoryOn}
+use Rattle.rules.specs.Round.{windowPlace, clearsOnly, memoryOn}
 
 -- Each pending job is at a place where it is cut: this too holds of every state that calls lead to.
 abbrev pub AtCuts : Plan → Core → Type 0
 AtCuts p c = (a : ℕ) → isPending (c .jobs a) ≡ true → Cut (segmentAt p a (c .jobs a .task)) (c .jobs a .task) (c .jobs a .processed)
 
--- the request of area a with job j
-abbrev pub requestFor : Plan → ℕ → Job → Request
-requestFor p a j =
-    record { kind = j .task .kind; start = due (layoutOf p) a j .start .0; place = windowPlace p a j; length = due (layoutOf p) a j .length }
+-- the request of area a with job j, on device d
+abbrev pub requestFor : Plan → ℕ → ℕ → Job → Request
+requestFor p d a j =
+    let s = due (layoutOf p) a j in
+    record { clears = clearsOnly p d; kind = j .task .kind; start = s .start .0; place = windowPlace p a j; length = s .length }
 
 -- no request, as one of 0 bytes
 abbrev pub emptyRequest : Request
-emptyRequest = record { kind = NoJob; start = 0; place = 0; length = 0 }
+emptyRequest = record { clears = false; kind = NoJob; start = 0; place = 0; length = 0 }
 
--- the request of a device in a state
-abbrev pub requestOn : Plan → DeviceState → (ℕ → Job) → Request
-requestOn p Free jobs = emptyRequest
-requestOn p (LockedFor a) jobs = emptyRequest
-requestOn p (Runs a polls) jobs = requestFor p a (jobs a)
+-- the request of device d in a state
+abbrev pub requestOn : Plan → ℕ → DeviceState → (ℕ → Job) → Request
+requestOn p d Free jobs = emptyRequest
+requestOn p d (LockedFor a) jobs = emptyRequest
+requestOn p d (Runs a polls) jobs = requestFor p d a (jobs a)
 
 -- the request of device d
 abbrev pub requestAt : Plan → Core → ℕ → Request
-requestAt p c d = requestOn p (c .devices d .state) (c .jobs)
+requestAt p c d = requestOn p d (c .devices d .state) (c .jobs)
 
 -- a device's request is none, or that of the area that it runs
 pub by-request : (p : Plan) (c : Core) (P : Request → Type 0) (d : ℕ) → P emptyRequest →
-    ((a q : ℕ) → c .devices d .state ≡ Runs a q → P (requestFor p a (c .jobs a))) → P (requestAt p c d)
+    ((a q : ℕ) → c .devices d .state ≡ Runs a q → P (requestFor p d a (c .jobs a))) → P (requestAt p c d)
 by-request p c P d f g = go (c .devices d .state) refl
   where
-    go : (s : DeviceState) → c .devices d .state ≡ s → P (requestOn p s (c .jobs))
+    go : (s : DeviceState) → c .devices d .state ≡ s → P (requestOn p d s (c .jobs))
     go Free e = f
     go (LockedFor a) e = f
     go (Runs a q) e = g a q e
@@ -71,11 +72,11 @@ empty-answered Answers.Done m = refl
 empty-answered (Answers.Failed b) m = refl
 
 -- what a round does on a device is what its request does
-pub memory-on : (p : Plan) (s : DeviceState) (x : DeviceAnswer) (jobs : ℕ → Job) (m : Memory) →
-    memoryOn p s x jobs m ≡ answered x (requestOn p s jobs) m
-memory-on p Free x jobs m = empty-answered x m
-memory-on p (LockedFor a) x jobs m = empty-answered x m
-memory-on p (Runs a polls) x jobs m = refl
+pub memory-on : (p : Plan) (d : ℕ) (s : DeviceState) (x : DeviceAnswer) (jobs : ℕ → Job) (m : Memory) →
+    memoryOn p d s x jobs m ≡ answered x (requestOn p d s jobs) m
+memory-on p d Free x jobs m = empty-answered x m
+memory-on p d (LockedFor a) x jobs m = empty-answered x m
+memory-on p d (Runs a polls) x jobs m = refl
 
 -- questions 18 and 19 as facts
 pub round-accepted : (p : Plan) (m : Memory) → roundNumber p (m .image) (m .store) ≡ 0 →
@@ -155,8 +156,8 @@ module _ (p : Plan) (w : WellFormed p) (c : Core) (reach : Reachable (layoutOf p
       }
 
   -- requests of two areas share no byte
-  areas-apart : {a b : ℕ} → Placed p c a → Placed p c b → (a ≡ b → ⊥) → Apart (requestFor p a (c .jobs a)) (requestFor p b (c .jobs b))
-  areas-apart {a} {b} h k f =
+  areas-apart : (d e : ℕ) {a b : ℕ} → Placed p c a → Placed p c b → (a ≡ b → ⊥) → Apart (requestFor p d a (c .jobs a)) (requestFor p e b (c .jobs b))
+  areas-apart d e {a} {b} h k f =
       let g = h .good in
       let i = k .good in
       record {
@@ -173,5 +174,5 @@ module _ (p : Plan) (w : WellFormed p) (c : Core) (reach : Reachable (layoutOf p
   pub requests-apart : (d e : ℕ) → (d ≡ e → ⊥) → Apart (requestAt p c d) (requestAt p c e)
   requests-apart d e f =
       by-request p c (λ r. Apart r (requestAt p c e)) d (omega arith) λ a q u.
-      by-request p c (λ r. Apart (requestFor p a (c .jobs a)) r) e (omega arith) λ b r v.
-      areas-apart (placed u) (placed v) (λ g. f (one-device reach u (v ∙ ap (λ i. Runs i r) (sym g))))
+      by-request p c (λ r. Apart (requestFor p d a (c .jobs a)) r) e (omega arith) λ b r v.
+      areas-apart d e (placed u) (placed v) (λ g. f (one-device reach u (v ∙ ap (λ i. Runs i r) (sym g))))

@@ -1,11 +1,12 @@
 -- document 01, "A round": its first half with the lent memory
 use Prim.Native.Nat.{ℕ, zero, suc, _+_}
+use mathlib.Core.Bool.{Bool}
 use mathlib.Core.List.{List, [], _∷_, _++_}
 use lib.ListN.{getD}
 use Rattle.arith.specs.Parts.{upd}
 use Rattle.memory.specs.declared.DeviceAnswer.{DeviceAnswer}
 use Rattle.memory.specs.declared.DeviceAnswer.the-variants as Answers
-use Rattle.plan.specs.Questions.{areaOf}
+use Rattle.plan.specs.Questions.{areaOf, deviceOf}
 use Rattle.plan.specs.declared.records.Plan.{Plan}
 use Rattle.segment.specs.declared.Segment.{Segment}
 use Rattle.state.specs.declared.DeviceState.{DeviceState}
@@ -23,6 +24,10 @@ answerOf l d = getD l d Answers.Pending
 abbrev pub windowPlace : Plan → ℕ → Job → ℕ
 windowPlace p a j = areaOf (p .areas) a .window .start + j .processed
 
+-- document 02, 03: "On NOR flash a write can turn a bit from 1 to 0 and never back."
+abbrev pub clearsOnly : Plan → ℕ → Bool
+clearsOnly p d = deviceOf (p .devices) d .clears
+
 -- Beside jobs, devices and memory, the first half keeps for each area the requests of its latest job that were done.
 pub record Half : Type 0 where
   pub core : Core
@@ -36,12 +41,12 @@ verdictOn p (Runs a polls) x jobs m =
     let s = due (layoutOf p) a (jobs a) in
     verdictOf x (jobs a .task .kind) (s .start .0) (windowPlace p a (jobs a)) (s .length) m
 
-abbrev pub memoryOn : Plan → DeviceState → DeviceAnswer → (ℕ → Job) → Memory → Memory
-memoryOn p Free x jobs m = m
-memoryOn p (LockedFor a) x jobs m = m
-memoryOn p (Runs a polls) x jobs m =
+abbrev pub memoryOn : Plan → ℕ → DeviceState → DeviceAnswer → (ℕ → Job) → Memory → Memory
+memoryOn p d Free x jobs m = m
+memoryOn p d (LockedFor a) x jobs m = m
+memoryOn p d (Runs a polls) x jobs m =
     let s = due (layoutOf p) a (jobs a) in
-    memoryAfter x (jobs a .task .kind) (s .start .0) (windowPlace p a (jobs a)) (s .length) m
+    memoryAfter (clearsOnly p d) x (jobs a .task .kind) (s .start .0) (windowPlace p a (jobs a)) (s .length) m
 
 abbrev pub addDone : Verdict → ℕ → Segment → (ℕ → List Segment) → ℕ → List Segment
 addDone finished a s done = upd done a (done a ++ (s ∷ []))
@@ -61,7 +66,7 @@ takeIn p d x h =
     let v = verdictOn p state x (h .core .jobs) (h .memory) in
     record {
       core = takeAnswer (layoutOf p) d v (h .core);
-      memory = memoryOn p state x (h .core .jobs) (h .memory);
+      memory = memoryOn p d state x (h .core .jobs) (h .memory);
       done = doneOn p state v (h .core .jobs) (h .done);
     }
 

@@ -26,11 +26,11 @@ use Rattle.rules.specs.History.{Call, submit, releases, cancels, asks, r
 use Rattle.rules.specs.Layout.{Layout, priorityOf, layoutOf, layoutAt, mostBelow}
 use Rattle.rules.specs.Machine as Machine
 use Rattle.rules.specs.Machine.{Core, isPending, isCancelling, need, ready, waitOf, holds}
-use Rattle.rules.specs.Memory.{Memory}
+use Rattle.rules.specs.Memory.{Memory, writtenByte}
 use Rattle.rules.specs.Queries.{noRequest, jobInfoOf}
 use Rattle.rules.specs.Reach.{callNumber, isRound, requestOf, ImageActed, imageValue, StoreActed, storeValue}
 use Rattle.rules.specs.Results.{Ends}
-use Rattle.rules.specs.Round.{answerOf, takeAll, windowPlace}
+use Rattle.rules.specs.Round.{answerOf, takeAll, windowPlace, clearsOnly}
 use Rattle.rules.specs.Session.{memoryOf}
 
 -- "The lent memory, which is the chip image and the job store, changes [..] only inside requests that the round finishes and the
@@ -43,7 +43,7 @@ pub record RoundChanges (p : Plan) (c : Core) (answers : List DeviceAnswer) (bef
   pub image-changed : (x : ℕ) → getD (after .image) x 0 ≢ getD (before .image) x 0 → (d : ℕ) × ImageActed p c answers x d
   pub store-changed : (x : ℕ) → getD (after .store) x 0 ≢ getD (before .store) x 0 → (d : ℕ) × StoreActed p c answers x d
   -- a byte that a request acts on becomes what the rules say
-  pub image-acted : (x d : ℕ) (u : ImageActed p c answers x d) → getD (after .image) x 0 ≡ imageValue p c before (u .area) x
+  pub image-acted : (x d : ℕ) (u : ImageActed p c answers x d) → getD (after .image) x 0 ≡ imageValue p c before d (u .area) x
   pub store-acted : (x d : ℕ) (u : StoreActed p c answers x d) → getD (after .store) x 0 ≡ storeValue p c before (u .area) x
   -- the round finishes the request
   pub image-finished : (x d : ℕ) → ImageActed p c answers x d → answerOf answers d ≢ Answers.Pending
@@ -74,12 +74,12 @@ pub record Demand2 (p : Plan) (h : History) (a : ℕ) : Type 0 where
   -- "each once"
   pub bytes-once : let t = h .core .jobs a .task in
       (x y : ℕ) → x < t .length → y < t .length → mappedByte p a t x ≡ mappedByte p a t y → x ≡ y
-  -- "writes take them from it"
+  -- "writes take them from it"; document 02, 03: where a chip only clears bits, "success of a write there means that content"
   pub done-write : (answers : List DeviceAnswer) (m : Memory) → roundNumber p (m .image) (m .store) ≡ 0 → (d polls : ℕ) →
       h .core .devices d .state ≡ Runs a polls → answerOf answers d ≡ Answers.Done → h .core .jobs a .task .kind ≡ Write →
       (k : ℕ) → k < requestOf p (h .core) a .length →
       getD (memoryOf p (round answers m) h m .image) (requestOf p (h .core) a .start .0 + k) 0
-      ≡ getD (m .store) (windowPlace p a (h .core .jobs a) + k) 0
+      ≡ writtenByte (clearsOnly p d) (getD (m .image) (requestOf p (h .core) a .start .0 + k) 0) (getD (m .store) (windowPlace p a (h .core .jobs a) + k) 0)
   -- "reads bring those bytes to the store"
   pub done-read : (answers : List DeviceAnswer) (m : Memory) → roundNumber p (m .image) (m .store) ≡ 0 → (d polls : ℕ) →
       h .core .devices d .state ≡ Runs a polls → answerOf answers d ≡ Answers.Done → h .core .jobs a .task .kind ≡ Read →

@@ -60,12 +60,12 @@ record Rest (n : ℕ) (c e : Core) : Type 0 where
 
 -- so is the request of device n
 same-request : (p : Plan) (n : ℕ) (c e : Core) → Rest n c e → requestAt p e n ≡ requestAt p c n
-same-request p n c e r = ap (λ s. requestOn p (s .state) (e .jobs)) (r .devices n (le-refl n)) ∙ go (c .devices n .state) refl
+same-request p n c e r = ap (λ s. requestOn p n (s .state) (e .jobs)) (r .devices n (le-refl n)) ∙ go (c .devices n .state) refl
   where
-    go : (s : DeviceState) → c .devices n .state ≡ s → requestOn p s (e .jobs) ≡ requestOn p s (c .jobs)
+    go : (s : DeviceState) → c .devices n .state ≡ s → requestOn p n s (e .jobs) ≡ requestOn p n s (c .jobs)
     go Free u = refl
     go (LockedFor a) u = refl
-    go (Runs a q) u = ap (requestFor p a) (r .jobs n a q (le-refl n) u)
+    go (Runs a q) u = ap (requestFor p n a) (r .jobs n a q (le-refl n) u)
 
 -- one device more has taken its answer
 rest-more : {l : Layout} {ok : ℕ → Task → Bool} {n : ℕ} {c e f : Core} → Reachable l ok c → Rest n c e → Others n e f → Rest (suc n) c f
@@ -94,7 +94,7 @@ module _ (p : Plan) (w : WellFormed p) (c : Core) (reach : Reachable (layoutOf p
         rest = rest-more reach (t .rest) (take-others (layoutOf p) n _ (h .core));
         after =
             subst (After (requestAt p c) (answerOf answers) m (suc n))
-            (sym (memory-on p (h .core .devices n .state) x (h .core .jobs) (h .memory) ∙ own))
+            (sym (memory-on p n (h .core .devices n .state) x (h .core .jobs) (h .memory) ∙ own))
             (after-more _ _ m (request-fits p w c reach cuts m accepted) (requests-apart p w c reach cuts) n (h .memory) (t .after));
       }
 

@@ -1,10 +1,22 @@
 // What drivers do with parts of lent memory: the chip image and the job store.
 ghost use mathlib.Core.Path.{_≡_};
-ghost use Prim.Native.Nat.{_+_, _≤_};
+ghost use Prim.Native.Nat.{_+_, _≤_, min};
+ghost use lib.Bits.{bitAnd};
 ghost use lib.Dec.{eqb};
 ghost use lib.ListN.{length, getD, replicate};
 ghost use Rattle.arith.specs.Bounded.{every};
+ghost use Rattle.arith.specs.Listed.{listed};
 ghost use Rattle.arith.specs.Parts.{part, put};
+ghost use Rattle.transfer.specs.PartLaws.{anded};
+
+pub fn least(a: usize, b: usize) -> usize
+    ensures { λ r. ⌜ r ≡ min a b ⌝ }
+{
+    if a < b {
+        return a;
+    }
+    b
+}
 
 // The loops, over whole slices.
 fn copy_all(dst: &mut [u8], src: &[u8])
@@ -14,6 +26,18 @@ fn copy_all(dst: &mut [u8], src: &[u8])
     let mut i = 0;
     while i < src.len() {
         dst[i] = src[i];
+        i += 1;
+    }
+}
+
+// Each byte of dst becomes the bits that it has in common with that of src, as far as both go.
+fn and_all(dst: &mut [u8], src: &[u8])
+    ensures { λ _. ⌜ now (dst .exit) ≡ anded (now (dst .entry)) (now (src .entry)) ⌝ }
+{
+    let n = least(dst.len(), src.len());
+    let mut i = 0;
+    while i < n {
+        dst[i] = dst[i] & src[i];
         i += 1;
     }
 }
@@ -80,6 +104,16 @@ pub fn write_part(image: &mut [u8], p: usize, store: &[u8], q: usize, n: usize)
 {
     let w = window_part(store, q, n);
     copy_to(image, p, w);
+}
+
+// n bytes of the window at q are and-ed into the image at p.
+pub fn and_part(image: &mut [u8], p: usize, store: &[u8], q: usize, n: usize)
+    requires { ⌜ (p + n ≤ length (now image)) × (q + n ≤ length (now store)) ⌝ }
+    ensures { λ _. ⌜ now (image .exit) ≡ put p (listed (λ i. bitAnd (getD (now (image .entry)) (p + i) 0) (getD (now (store .entry)) (q + i) 0)) 0 n) (now (image .entry)) ⌝ }
+{
+    let e = p + n;
+    let w = window_part(store, q, n);
+    and_all(&mut image[p..e], w);
 }
 
 // n bytes of the image at p go to the window at q.

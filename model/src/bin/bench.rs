@@ -4,15 +4,15 @@
 use model::jobs::{Answer, JobType, Operation};
 use model::loops::{self, Request};
 use model::manager::Manager;
-use model::plan::{self, Plan};
-use model::plans::{encode, enduring, largest};
+use model::plan::{self, Chip, Plan};
+use model::plans::{encode, enduring, largest, with_chips};
 use model::proved::{self, timing};
 use model::race::{race, Race};
 use std::hint::black_box;
 
 #[cfg(feature = "session")]
 use model::{
-    plans::{full, plan_t},
+    plans::{full_that_stores, plan_t},
     proved::session::Library,
     random::Random,
     script::{Lending, Script},
@@ -140,14 +140,15 @@ fn rounds() {
     let plan = enduring(4, 8, 32);
     report("round, 4 writes pending", round(&plan, Operation::Write, Answer::Pending));
     report("round, 4 erases pending", round(&plan, Operation::Erase, Answer::Pending));
-    let mut suspending = plan.clone();
-    suspending.devices.iter_mut().for_each(|device| device.can_suspend = true);
+    let suspending = with_chips(plan.clone(), Chip::Suspending);
     let erases = round(&suspending, Operation::Erase, Answer::Pending);
     report("round, 4 erases pending, chips can suspend", erases);
     for operation in Operation::ALL {
         let name = format!("round, 4 requests of {operation:?} done");
         report(&name, round(&plan, operation, Answer::Done));
     }
+    let writes = round(&with_chips(plan, Chip::Clearing), Operation::Write, Answer::Done);
+    report("round, 4 writes done, chips only clear bits", writes);
 }
 
 /// Image and store are all 255, so that no compare or blank check finds a difference.
@@ -191,7 +192,7 @@ fn growth() {
 fn sessions() {
     const LINES: usize = 20_000;
     let mut random = Random::new(1);
-    for (name, plan) in [("plan T", plan_t()), ("most records", full(&mut random))] {
+    for (name, plan) in [("plan T", plan_t()), ("most records", full_that_stores(&mut random))] {
         let mut lines: Vec<_> = lines(&mut random, &plan, LINES);
         lines.retain(|line| line.text.len() < 100);
         let script = Script {

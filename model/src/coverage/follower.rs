@@ -1,14 +1,15 @@
 //! The jobs and devices of a session, told from the plan, the lines and the output.
 //!
 //! Only what is sure counts: a job is known to wait from its acceptance until its first request is
-//! shown, and between a piece that was done and the next one that is shown. Polls and suspended erases
-//! are known from what is shown and answered.
+//! shown, and between a piece that was done and the next one that is shown. Polls, suspended erases and
+//! the bytes that were written are known from what is shown and answered.
 
-use super::{equals, suspensions};
+use super::{clearing, equals, suspensions};
 use super::{fields, number, Kind};
 use crate::jobs::Operation;
 use crate::plan::Plan;
 use crate::segments::{self, index, Piece};
+use std::ops::Range;
 
 pub(super) struct Follower<'a> {
     pub(super) plan: &'a Plan,
@@ -19,6 +20,8 @@ pub(super) struct Follower<'a> {
     pub(super) polls: Vec<u64>,
     /// Of each device.
     pub(super) suspended: Vec<Option<Suspended>>,
+    /// Of each image byte: has a write acted on it, and no erase since?
+    pub(super) written: Vec<bool>,
     /// Accepted jobs and locks of each area.
     acceptances: Vec<u64>,
 }
@@ -47,7 +50,7 @@ pub(super) struct Suspended {
 pub(super) enum Shown {
     Nothing,
     Lock,
-    Request { area: usize, job_type: u64, start: u64 },
+    Request { area: usize, job_type: u64, start: u64, length: u64 },
 }
 
 /// How a device comes to show what it does.
@@ -68,7 +71,9 @@ impl Shown {
     fn of(field: &[u8]) -> Shown {
         let numbers: Vec<_> = field.split(|byte| *byte == b':').map(number).collect();
         match numbers[..] {
-            [area, job_type, start, _] => Shown::Request { area: index(area), job_type, start },
+            [area, job_type, start, length] => {
+                Shown::Request { area: index(area), job_type, start, length }
+            }
             _ if field == b"L" => Shown::Lock,
             _ => Shown::Nothing,
         }
@@ -99,6 +104,7 @@ impl<'a> Follower<'a> {
             shown: vec![Shown::Nothing; plan.devices.len()],
             polls: vec![0; plan.devices.len()],
             suspended: vec![None; plan.devices.len()],
+            written: vec![false; index(plan.device_sum())],
             acceptances: vec![0; plan.areas.len()],
         }
     }
@@ -137,7 +143,7 @@ impl<'a> Follower<'a> {
         Vec::new()
     }
 
-    fn accept(&mut self, job_type: u64, area: usize, range: std::ops::Range<u64>) {
+    fn accept(&mut self, job_type: u64, area: usize, range: Range<u64>) {
         let mut operations = Operation::ALL.into_iter();
         let operation = operations.find(|operation| u64::from(operation.number()) == job_type);
         let waits_for = segments::device(self.plan, area, range.start);
@@ -175,6 +181,8 @@ impl<'a> Follower<'a> {
             let of_equals = equals::came_up(self, device, shown, change);
             came_up.extend(of_equals.into_iter().map(Kind::Equals));
             came_up.extend(suspensions::came_up(self, device, shown, change));
+            came_up.extend(clearing::came_up(self, device, words[device], change));
+            self.follow_bytes(device, words[device]);
             self.follow(device, shown, change);
         }
         came_up
@@ -188,6 +196,28 @@ impl<'a> Follower<'a> {
                     job.waits_for = job.device_behind(start);
                 }
             }
+        }
+    }
+
+    /// The bytes that the request shown on a device has acted on, if it is a write or an erase that ends
+    /// with this answer.
+    pub(super) fn acted(&self, device: usize, word: &[u8]) -> Option<(Operation, Range<usize>)> {
+        let Shown::Request { job_type, start, length, .. } = self.shown[device] else {
+            return None;
+        };
+        let mut operations = [Operation::Write, Operation::Erase].into_iter();
+        let operation = operations.find(|o| u64::from(o.number()) == job_type)?;
+        let acted = match word {
+            b"p" => return None,
+            b"d" => length,
+            k => length.min(number(k)),
+        };
+        Some((operation, index(start)..index(start + acted)))
+    }
+
+    fn follow_bytes(&mut self, device: usize, word: &[u8]) {
+        if let Some((operation, bytes)) = self.acted(device, word) {
+            self.written[bytes].fill(operation == Operation::Write);
         }
     }
 

@@ -65,7 +65,7 @@ pub(super) fn came_up(follower: &Follower, device: usize, now: Shown, change: Ch
     let lock_waits = is_suspended && follower.waiting(device).any(is_lock);
     came_up.extend(lock_waits.then_some(Suspension::LockWaits));
     let is_erase = job_type == u64::from(Operation::Erase.number());
-    if is_erase && !is_suspended && follower.plan.devices[device].can_suspend {
+    if is_erase && !is_suspended && follower.plan.devices[device].chip.can_suspend() {
         came_up.extend(passed_over(follower, device, area, change));
     }
     came_up.into_iter().map(Kind::Suspension).collect()

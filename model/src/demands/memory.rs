@@ -2,7 +2,7 @@
 //! jobs into pieces.
 
 use crate::jobs::Operation;
-use crate::plan::Plan;
+use crate::plan::{Chip, Plan};
 use crate::segments::index;
 use crate::wait_book::{Fate, Finished, Outcome};
 
@@ -32,10 +32,13 @@ pub fn owed(plan: &Plan, fates: &[Fate], image: &[u8], store: &[u8]) -> (Vec<u8>
         };
         let window_start = u64::from(plan.areas[finished.area].window_start) + finished.offset;
         for byte in 0..acted(finished) {
-            let image_byte = index(finished.piece.start + byte);
-            let window_byte = index(window_start + byte);
+            let address = finished.piece.start + byte;
+            let (image_byte, window_byte) = (index(address), index(window_start + byte));
             match finished.operation {
-                Operation::Write => owed_image[image_byte] = store[window_byte],
+                Operation::Write => {
+                    let (old, window) = (image[image_byte], store[window_byte]);
+                    owed_image[image_byte] = written(chip_at(plan, address), old, window);
+                }
                 Operation::Erase => owed_image[image_byte] = 255,
                 Operation::Read => owed_store[window_byte] = image[image_byte],
                 Operation::Compare | Operation::BlankCheck => {}
@@ -45,8 +48,32 @@ pub fn owed(plan: &Plan, fates: &[Fate], image: &[u8], store: &[u8]) -> (Vec<u8>
     (owed_image, owed_store)
 }
 
+/// The chip that an image byte lies on.
+fn chip_at(plan: &Plan, address: u64) -> Chip {
+    let device = plan.devices.iter().find(|device| device.bytes().contains(&address));
+    device.expect("inside the image").chip
+}
+
+/// What a write leaves in the place of a byte. "In demand 2, success of a write there means that
+/// content; other chips store as before."
+fn written(chip: Chip, old: u8, window: u8) -> u8 {
+    match chip {
+        Chip::Plain | Chip::Suspending => window,
+        Chip::Clearing => cleared(old, window),
+    }
+}
+
+/// "On NOR flash a write can turn a bit from 1 to 0 and never back": the bits that were 1 and that the
+/// window has as 0 go, all others stay.
+fn cleared(old: u8, window: u8) -> u8 {
+    let value = |bit: u32| 2u8.pow(bit);
+    let is_1 = |byte: u8, bit: u32| byte / value(bit) % 2 == 1;
+    let turned = (0..8).filter(|bit| is_1(old, *bit) && !is_1(window, *bit));
+    old - turned.map(value).sum::<u8>()
+}
+
 /// On how many of its bytes a request has acted.
-fn acted(finished: &Finished) -> u64 {
+pub fn acted(finished: &Finished) -> u64 {
     match (finished.outcome, finished.operation) {
         (Outcome::Done, _) => finished.piece.length,
         (Outcome::Failed { acted }, Operation::Write | Operation::Erase) => acted,

@@ -43,7 +43,8 @@ impl Suspensions {
 
     /// What an accepted round did on the devices that can suspend.
     pub(super) fn add_round(&mut self, plan: &Plan, before: &WaitBook, after: &WaitBook) {
-        for device in (0..plan.devices.len()).filter(|device| plan.devices[*device].can_suspend) {
+        let can_suspend = |device: &usize| plan.devices[*device].chip.can_suspend();
+        for device in (0..plan.devices.len()).filter(can_suspend) {
             let was_suspended = before.suspended_on(device).is_some();
             let is_suspended = after.suspended_on(device).is_some();
             let Station::Runs { area, polls, .. } = after.station(device) else {

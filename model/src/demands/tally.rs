@@ -1,5 +1,6 @@
 //! What came up in trials: shows, and lets tests assert, that no rule went untried.
 
+use super::clearing::Clearing;
 use super::suspensions::Suspensions;
 use crate::calls::Call;
 use crate::histogram::Histogram;
@@ -30,6 +31,7 @@ pub struct Tally {
     pub acceptances: [u64; MOST_AREAS],
     pub equals: Equals,
     pub suspensions: Suspensions,
+    pub clearing: Clearing,
 }
 
 /// How often the order of acceptance decided between areas of equal priority.
@@ -153,7 +155,8 @@ impl fmt::Display for Tally {
         let (own, below) = (self.own_bounds_reached, self.below_bounds_reached);
         writeln!(f, "jobs at the bound on own: {own}, on below: {below}")?;
         writeln!(f, "between equals:{}", listed(&self.equals.counts()))?;
-        write!(f, "erases:{}", listed(&self.suspensions.counts()))
+        writeln!(f, "erases:{}", listed(&self.suspensions.counts()))?;
+        write!(f, "writes with a byte of neither version:{}", listed(&self.clearing.counts()))
     }
 }
 

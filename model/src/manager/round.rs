@@ -88,7 +88,7 @@ impl Manager {
         let bytes = request.piece.bytes();
         let window = || self.window_part(request, request.piece.length);
         match request.operation {
-            Operation::Write => image[bytes].copy_from_slice(&store[window()]),
+            Operation::Write => self.write(request, request.piece.length, image, store),
             Operation::Erase => image[bytes].fill(255),
             Operation::Read => store[window()].copy_from_slice(&image[bytes]),
             Operation::Compare => return image[bytes] == store[window()],
@@ -101,12 +101,9 @@ impl Manager {
     /// has changed; with a retry left the same piece is due again, otherwise the job ends with 1."
     fn request_failed(&mut self, request: &Request, k: u32, image: &mut [u8], store: &[u8]) {
         let acted = u64::from(k).min(request.piece.length);
-        let bytes = request.piece.first_bytes(acted);
         match request.operation {
-            Operation::Write => {
-                image[bytes].copy_from_slice(&store[self.window_part(request, acted)]);
-            }
-            Operation::Erase => image[bytes].fill(255),
+            Operation::Write => self.write(request, acted, image, store),
+            Operation::Erase => image[request.piece.first_bytes(acted)].fill(255),
             Operation::Read | Operation::Compare | Operation::BlankCheck => {}
         }
         let state = &mut self.areas[request.area];
@@ -114,6 +111,21 @@ impl Manager {
             return state.end(JobResult::Failed);
         }
         state.retries_left -= 1;
+    }
+
+    /// What a write leaves where it has acted, on its first `length` bytes: "the image part becomes the
+    /// window bytes". On chips that only clear bits "a done write leaves the old byte and-ed with the
+    /// window byte, and so do the first k bytes of a failed one".
+    // Inlined: as a call of its own it would make every round dearer, also without a write.
+    #[inline(always)]
+    fn write(&self, request: &Request, length: u64, image: &mut [u8], store: &[u8]) {
+        let bytes = &mut image[request.piece.first_bytes(length)];
+        let window = &store[self.window_part(request, length)];
+        if self.plan.devices[request.piece.device].chip.only_clears() {
+            bytes.iter_mut().zip(window).for_each(|(byte, written)| *byte &= written);
+        } else {
+            bytes.copy_from_slice(window);
+        }
     }
 
     /// The store bytes of the first `length` bytes of a request: "at the processed length from the
@@ -160,7 +172,7 @@ impl Manager {
     /// erase's area and its next piece is no erase, the erase is parked with its polls kept and that
     /// piece starts." On other chips, and of other operations, nothing is suspended.
     fn give_way(&mut self, device: usize, request: Request, needed: &[Option<usize>]) {
-        let can_suspend = self.plan.devices[device].can_suspend;
+        let can_suspend = self.plan.devices[device].chip.can_suspend();
         if !can_suspend || request.operation != Operation::Erase {
             return;
         }

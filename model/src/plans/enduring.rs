@@ -2,7 +2,7 @@
 //! and areas that begin on the devices in turn, so that all devices are busy.
 
 use super::low_byte;
-use crate::plan::{Area, Device, Plan, SubArea, WINDOW_LIMIT};
+use crate::plan::{Area, Chip, Device, Plan, SubArea, WINDOW_LIMIT};
 
 /// Bytes of each sub-area.
 const SIZE: u32 = 8_192;
@@ -31,7 +31,7 @@ pub fn enduring(devices: u32, areas: u32, sub_areas: u32) -> Plan {
         start: number * room,
         length: room,
         patience: u16::MAX,
-        can_suspend: false,
+        chip: Chip::Plain,
     };
     Plan {
         devices: (0..devices).map(device).collect(),

@@ -6,7 +6,7 @@
 //! one.
 
 use super::{draw_marks, low_byte};
-use crate::plan::{Area, Device, Plan, SubArea, LOGICAL_LIMIT, WINDOW_LIMIT};
+use crate::plan::{Area, Chip, Device, Plan, SubArea, LOGICAL_LIMIT, WINDOW_LIMIT};
 use crate::random::Random;
 
 /// Every sub-area fits in a cell, and devices that question 3 lets pass are whole cells.
@@ -43,13 +43,13 @@ fn count(random: &mut Random, loose_from: u8, most: u32) -> u32 {
 fn device(random: &mut Random, loose_from: u8, end: u32) -> Device {
     let length = random.between(1, 8) * CELL;
     if loose_from > 3 {
-        return Device { start: end, length, patience: 1, can_suspend: false };
+        return Device { start: end, length, patience: 1, chip: Chip::Plain };
     }
     Device {
         start: random.pick(&[end, end, end, end + 1, end.saturating_sub(1), 0]),
         length: random.pick(&[length, length, length, 0, 1 << 24]),
         patience: random.pick(&[1, 1, 1, 0]),
-        can_suspend: false,
+        chip: Chip::Plain,
     }
 }
 

@@ -3,7 +3,7 @@
 
 use super::valid::{divisor, spread_over_areas};
 use super::{draw_marks, low_byte};
-use crate::plan::{Area, Device, Plan, SubArea, LOGICAL_LIMIT};
+use crate::plan::{Area, Chip, Device, Plan, SubArea, LOGICAL_LIMIT};
 use crate::random::Random;
 
 pub fn small(random: &mut Random) -> Plan {
@@ -16,8 +16,8 @@ pub fn small(random: &mut Random) -> Plan {
     of_counts(random, device_count, area_count, sub_area_count)
 }
 
-/// Areas of several ranks, two of them equal, on few devices that can suspend and are patient enough
-/// for it.
+/// Areas of several ranks, two of them equal, on few devices that can suspend, with either mark, and
+/// are patient enough for it.
 fn suspending(random: &mut Random) -> Plan {
     let device_count = random.pick(&[1, 1, 2]);
     let sub_area_count = random.between(4, 7);
@@ -27,7 +27,8 @@ fn suspending(random: &mut Random) -> Plan {
     let areas = plan.areas.iter_mut().zip(priorities);
     areas.for_each(|(area, priority)| area.priority = priority);
     for device in &mut plan.devices {
-        (device.can_suspend, device.patience) = (true, device.patience.max(2));
+        let chip = random.pick(&[Chip::Suspending, Chip::Clearing]);
+        (device.chip, device.patience) = (chip, device.patience.max(2));
     }
     plan
 }
@@ -44,13 +45,29 @@ pub fn full(random: &mut Random) -> Plan {
     of_counts(random, 4, 8, 32)
 }
 
+/// The same without chips that only clear bits. The benchmark's sessions run on it: they are to stay
+/// as they are.
+pub fn full_that_stores(random: &mut Random) -> Plan {
+    let mut plan = unmarked(random, 4, 8, 32);
+    for device in &mut plan.devices {
+        device.chip = if random.one_in(3) { Chip::Plain } else { Chip::Suspending };
+    }
+    plan
+}
+
 fn of_counts(random: &mut Random, device_count: u32, area_count: u32, sub_area_count: u32) -> Plan {
+    let mut plan = unmarked(random, device_count, area_count, sub_area_count);
+    draw_marks(random, &mut plan);
+    plan
+}
+
+/// With plain chips.
+fn unmarked(random: &mut Random, device_count: u32, area_count: u32, sub_area_count: u32) -> Plan {
     let mut plan = image_layout(random, device_count, sub_area_count);
     // Mixed, the sub-areas of an area lie on several devices, some of them again and again.
     random.shuffle(&mut plan.sub_areas);
     spread_over_areas(random, area_count, &mut plan.sub_areas);
     plan.areas = areas(random, area_count, &plan);
-    draw_marks(random, &mut plan);
     plan
 }
 
@@ -69,7 +86,7 @@ fn image_layout(random: &mut Random, device_count: u32, sub_area_count: u32) -> 
         end += if end == start { 1 } else { random.below(3) };
         // Enough polls at times for an erase that is suspended more than once.
         let patience = random.pick(&[1, 2, 2, 3, 4, 6]);
-        plan.devices.push(Device { start, length: end - start, patience, can_suspend: false });
+        plan.devices.push(Device { start, length: end - start, patience, chip: Chip::Plain });
     }
     plan
 }

@@ -2,7 +2,7 @@
 //! comparison shows.
 
 use super::{draw_marks, low_byte, low_two_bytes};
-use crate::plan::{Area, Device, Plan, SubArea};
+use crate::plan::{Area, Chip, Device, Plan, SubArea};
 use crate::plan::{DEVICE_SUM_LIMIT, LOGICAL_LIMIT, WINDOW_LIMIT};
 use crate::random::Random;
 
@@ -54,7 +54,7 @@ fn image_layout(random: &mut Random, device_count: u32, sub_area_count: u32) -> 
         let is_empty = end == start;
         end += if is_empty || random.one_in(2) { random.between(1, room) } else { 0 };
         let patience = patience(random);
-        plan.devices.push(Device { start, length: end - start, patience, can_suspend: false });
+        plan.devices.push(Device { start, length: end - start, patience, chip: Chip::Plain });
     }
     plan
 }

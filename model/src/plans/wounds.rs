@@ -1,7 +1,7 @@
 //! Wounds: changes to a plan that may or may not make a question answer "no".
 
 use super::{encode, encode_records, raw_records, Field, RawRecord};
-use crate::plan::{Plan, AREA_MARK, DEVICE_MARK, SUB_AREA_MARK, SUSPENDING_DEVICE_MARK};
+use crate::plan::{Chip, Plan, AREA_MARK, SUB_AREA_MARK};
 use crate::random::Random;
 
 /// What a wound makes of a field. At the ends of a field's range "one more" and "one less" go round
@@ -86,7 +86,10 @@ fn wound_field(random: &mut Random, record: &mut RawRecord) {
 /// mark, known or not, or a mark with one byte changed.
 fn another_mark(random: &mut Random, [first, second]: [u8; 2]) -> [u8; 2] {
     match random.below(5) {
-        0 => random.pick(&[DEVICE_MARK, SUSPENDING_DEVICE_MARK, AREA_MARK, SUB_AREA_MARK]),
+        0 => {
+            let device = random.pick(&Chip::ALL).mark();
+            random.pick(&[device, device, AREA_MARK, SUB_AREA_MARK])
+        }
         1 => [second, first],
         2 => [first, random.pick(&[0x56, 0x53, 0x46, 0x54, 0x52, 0x4C, 0x42])],
         3 => [random.byte(), second],

@@ -1,5 +1,6 @@
 //! Random calls, and lists of them with what happens to the memory in between.
 
+use super::rewrites::{rewrites, Rewrite};
 use super::suspensions::{stages, Stage};
 use crate::admission::furthest_window_end;
 use crate::calls::{Call, Query};
@@ -53,6 +54,9 @@ const LOCK_LENGTHS: [u32; 2] = [12, 60];
 /// Calls on average from one erase that gives way to the next, where the plan lets them.
 const BETWEEN_SUSPENSIONS: u32 = 6;
 
+/// Calls on average from one page written twice to the next, where the plan lets them.
+const BETWEEN_REWRITES: u32 = 14;
+
 /// Draws calls over a plan, one after the other.
 pub(super) struct Drawer<'a> {
     plan: &'a Plan,
@@ -61,6 +65,7 @@ pub(super) struct Drawer<'a> {
     /// good.
     releases: Vec<(u32, Target)>,
     stages: Vec<Stage<'a>>,
+    rewrites: Vec<Rewrite<'a>>,
     /// Calls that belong together and come before any others.
     due: VecDeque<Call>,
 }
@@ -90,6 +95,7 @@ impl<'a> Drawer<'a> {
             mood: random.pick(&MOODS),
             releases: Vec::new(),
             stages: stages(plan),
+            rewrites: rewrites(plan),
             due: VecDeque::new(),
         }
     }
@@ -101,6 +107,10 @@ impl<'a> Drawer<'a> {
         if self.due.is_empty() && !self.stages.is_empty() && random.one_in(BETWEEN_SUSPENSIONS) {
             let stage = random.index(self.stages.len());
             self.due.extend(self.stages[stage].calls(random));
+        }
+        if self.due.is_empty() && !self.rewrites.is_empty() && random.one_in(BETWEEN_REWRITES) {
+            let rewrite = random.index(self.rewrites.len());
+            self.due.extend(self.rewrites[rewrite].calls(random));
         }
         let due = self.due.pop_front().or_else(|| self.release_due().map(Call::Release));
         due.unwrap_or_else(|| self.drawn_call(random))
@@ -158,8 +168,8 @@ fn round_lent(random: &mut Random, plan: &Plan, mood: Mood) -> Step {
     }
 }
 
-/// Bytes are mostly 0 and 255, so that compares and blank checks find what they look for often
-/// enough.
+/// Half of the bytes are 0 or 255, so that compares and blank checks find what they look for often
+/// enough. With the others writes on chips that only clear bits leave neither version.
 fn change(random: &mut Random, plan: &Plan) -> Step {
     let (memory, end) = match random.below(2) {
         0 => (Memory::Image, segments::index(plan.device_sum())),
@@ -172,7 +182,7 @@ fn change(random: &mut Random, plan: &Plan) -> Step {
         memory,
         start,
         length: random.pick(&[1, 1, 1, some, all]),
-        byte: random.pick(&[0, 255, 255, any_byte]),
+        byte: random.pick(&[0, 255, any_byte, any_byte]),
     }
 }
 

@@ -1,12 +1,11 @@
 //! Calls in which an erase gives way: an area erases on a device that can suspend, and areas ranked
 //! above it come with jobs and locks of their own while the erase runs or is suspended.
 
-use super::calls::target_in;
+use super::spots::{spots, Spot};
 use crate::calls::{Call, Query};
-use crate::jobs::{Answer, Operation, Target};
+use crate::jobs::{Answer, Operation};
 use crate::plan::Plan;
 use crate::random::Random;
-use crate::segments::{self, Placed};
 
 /// Where an erase can give way.
 pub(super) struct Stage<'a> {
@@ -14,14 +13,6 @@ pub(super) struct Stage<'a> {
     /// On the same device, of areas of greater priority, the greatest last.
     above: Vec<Spot<'a>>,
     patience: u16,
-}
-
-/// A sub-area at its place in its area.
-#[derive(Clone)]
-struct Spot<'a> {
-    area: usize,
-    priority: u16,
-    placed: Placed<'a>,
 }
 
 const OTHERS: [Operation; 4] =
@@ -32,43 +23,20 @@ const MOST_QUIET_ROUNDS: u16 = 16;
 
 /// All stages of a plan. With a patience of 1 no erase lives to be suspended.
 pub(super) fn stages(plan: &Plan) -> Vec<Stage<'_>> {
-    let of_area = |area: usize| {
-        let priority = plan.areas[area].priority;
-        segments::placed(plan, area).map(move |placed| Spot { area, priority, placed })
-    };
-    let mut spots: Vec<_> = (0..plan.areas.len()).flat_map(of_area).collect();
+    let mut spots: Vec<_> = spots(plan).collect();
     spots.sort_by_key(|spot| spot.priority);
-    let may_give_way = |spot: &&Spot| plan.devices[spot.device()].can_suspend;
+    let may_give_way = |spot: &&Spot| plan.devices[spot.device()].chip.can_suspend();
     let stages = spots.iter().filter(may_give_way).map(|erasing| Stage {
         erasing: erasing.clone(),
-        above: spots.iter().filter(|spot| spot.is_above(erasing)).cloned().collect(),
+        above: spots.iter().filter(|spot| is_above(spot, erasing)).cloned().collect(),
         patience: plan.devices[erasing.device()].patience,
     });
     stages.filter(|stage| !stage.above.is_empty() && stage.patience > 1).collect()
 }
 
-impl Spot<'_> {
-    fn device(&self) -> usize {
-        usize::from(self.placed.sub_area.device)
-    }
-
-    /// On the same device, with the greater priority.
-    fn is_above(&self, other: &Spot) -> bool {
-        self.device() == other.device() && self.priority > other.priority
-    }
-
-    fn number(&self) -> u32 {
-        u32::try_from(self.area).expect("at most 8 areas")
-    }
-
-    fn job(&self, random: &mut Random, operation: Operation) -> Call {
-        let unit = operation.unit(self.placed.sub_area);
-        Call::Job(operation, self.target(random, unit))
-    }
-
-    fn target(&self, random: &mut Random, unit: u32) -> Target {
-        target_in(random, self.area, [&self.placed; 2], |_| unit)
-    }
+/// On the same device, with the greater priority.
+fn is_above(spot: &Spot, other: &Spot) -> bool {
+    spot.device() == other.device() && spot.priority > other.priority
 }
 
 impl Stage<'_> {

@@ -19,7 +19,8 @@ impl WaitBook {
     /// suspend "the bound on rounds below becomes twice (patience less one) per stretch, for every
     /// job type".
     pub fn below_bound(&self, work: &Work) -> u128 {
-        let times = |device: usize| if self.plan.devices[device].can_suspend { 2 } else { 1 };
+        let times =
+            |device: usize| if self.plan.devices[device].chip.can_suspend() { 2 } else { 1 };
         self.below_sum(work, times)
     }
 

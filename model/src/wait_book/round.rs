@@ -231,10 +231,10 @@ impl WaitBook {
         ready.min_by_key(|area| self.rank(*area))
     }
 
-    /// "A device record with mark hex 44 53, laid out as before, means the chip can pause." Only an
-    /// erase gives way there.
+    /// "A device record with mark hex 44 53, laid out as before, means the chip can pause", and one with
+    /// mark hex 44 46 "can pause too". Only an erase gives way there.
     fn may_give_way(&self, device: usize, area: usize) -> bool {
-        self.plan.devices[device].can_suspend && self.entries[area].is_erase()
+        self.plan.devices[device].chip.can_suspend() && self.entries[area].is_erase()
     }
 
     /// Does a ready job go over the erase of an area? "A lock request has no piece and parks

@@ -1,12 +1,14 @@
 //! Subjects that are wrong on purpose: the model with its plan, its lines or its output changed on
-//! the way, with another order of acceptance, or with erases that give way wrongly. The comparison
-//! must find each of them.
+//! the way, with another order of acceptance, with erases that give way wrongly, or with writes that
+//! leave other bytes. The comparison must find each of them.
 
+mod clearing;
 mod order;
 mod suspension;
 
+use clearing::{right_byte, stored_if};
 use model::manager::{DeviceState, Manager, Request};
-use model::plan::{self, Plan};
+use model::plan::{self, Chip, Plan};
 use model::plans::encode;
 use model::subject::{Model, Subject};
 use order::{Event, Places};
@@ -53,6 +55,7 @@ pub fn all() -> Vec<Mutant> {
     all.extend(of_going_over());
     all.extend(of_suspended_polls());
     all.extend(of_suspended_jobs());
+    all.extend(of_clearing());
     all
 }
 
@@ -129,15 +132,19 @@ fn of_plans() -> Vec<Mutant> {
 
 fn of_marks() -> Vec<Mutant> {
     vec![
-        plan_mutant!("every chip suspends", |p| p
-            .devices
-            .iter_mut()
-            .for_each(|d| d.can_suspend = true)),
-        plan_mutant!("no chip suspends", |p| p
-            .devices
-            .iter_mut()
-            .for_each(|d| d.can_suspend = false)),
+        plan_mutant!("every chip suspends", |p| replace(p, Chip::Plain, Chip::Suspending)),
+        plan_mutant!("chips that can suspend do not", |p| replace(
+            p,
+            Chip::Suspending,
+            Chip::Plain
+        )),
     ]
+}
+
+/// One chip in the place of another.
+fn replace(plan: &mut Plan, one: Chip, other: Chip) {
+    let devices = plan.devices.iter_mut().filter(|device| device.chip == one);
+    devices.for_each(|device| device.chip = other);
 }
 
 /// The input with every line changed; ends stay.
@@ -365,7 +372,7 @@ fn of_giving_way() -> Vec<Mutant> {
         flaw_mutant!(
             "any request gives way",
             Flaw::GivesWay(|scene, ready| {
-                let gives_way = scene.can_suspend && !scene.is_suspended;
+                let gives_way = scene.chip.can_suspend() && !scene.is_suspended;
                 gives_way && ready.is_highest && ready.outranks && ready.is_other()
             })
         ),
@@ -489,5 +496,45 @@ fn of_suspended_jobs() -> Vec<Mutant> {
         moved_mutant!("a suspended erase goes last", Event::Suspended { area } => places {
             places.numbers[area] = places.last();
         }),
+    ]
+}
+
+/// Makes a mutant of what a write leaves in the place of a byte.
+macro_rules! byte_mutant {
+    ($name:expr, $leaves:expr) => {
+        Mutant {
+            name: $name,
+            session: |plan, input, image, store| {
+                clearing::session($leaves, plan, input, image, store)
+            },
+        }
+    };
+}
+
+/// No mutant: what writes leave is worked out by another hand, but as the rules have it.
+pub fn right_writes() -> Mutant {
+    byte_mutant!("the right writes", right_byte)
+}
+
+/// What writes leave on chips that only clear bits and on others.
+fn of_clearing() -> Vec<Mutant> {
+    vec![
+        byte_mutant!("chips that only clear bits store", |write| write.window),
+        byte_mutant!("failed writes store", |write| stored_if(write.is_failed, write)),
+        byte_mutant!("failed writes store before a retry", |write| {
+            stored_if(write.is_failed && write.is_pending, write)
+        }),
+        byte_mutant!("failed writes of cancelled jobs store", |write| {
+            stored_if(write.is_failed && write.is_cancelled, write)
+        }),
+        byte_mutant!("every chip clears", |write| write.old & write.window),
+        byte_mutant!("bits are set where they should be cleared", |write| match write.chip {
+            Chip::Clearing => write.old | write.window,
+            Chip::Plain | Chip::Suspending => write.window,
+        }),
+        flaw_mutant!(
+            "chips that only clear bits do not suspend",
+            Flaw::Stays(|scene| scene.may_give_way() && scene.chip.only_clears())
+        ),
     ]
 }

@@ -5,6 +5,7 @@ use model::admission;
 use model::calls::{Call, Query};
 use model::jobs::{Answer, Operation};
 use model::manager::{DeviceState, JobInfo, Manager, Request};
+use model::plan::Chip;
 use model::segments;
 use model::session::{call_of, Session};
 use model::subject::{Model, Subject};
@@ -29,7 +30,7 @@ pub struct Scene {
     pub request: Request,
     pub is_suspended: bool,
     pub is_cancelled: bool,
-    pub can_suspend: bool,
+    pub chip: Chip,
 }
 
 /// A job that waits for the device of a scene.
@@ -44,7 +45,7 @@ impl Scene {
     /// A running erase on a chip that can suspend.
     pub fn may_give_way(&self) -> bool {
         let is_erase = self.request.operation == Operation::Erase;
-        self.can_suspend && is_erase && !self.is_suspended
+        self.chip.can_suspend() && is_erase && !self.is_suspended
     }
 }
 
@@ -161,8 +162,8 @@ impl Flawed {
             _ => return None,
         };
         let is_cancelled = self.is_cancelled[request.area];
-        let can_suspend = manager.plan().devices[device].can_suspend;
-        Some(Scene { request, is_suspended, is_cancelled, can_suspend })
+        let chip = manager.plan().devices[device].chip;
+        Some(Scene { request, is_suspended, is_cancelled, chip })
     }
 
     fn close(&mut self, before: &Manager, device: usize, kept: Option<Option<Request>>) {

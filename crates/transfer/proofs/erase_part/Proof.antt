@@ -1,7 +1,8 @@
 use Prim.Native.Nat.{ℕ}
 use mathlib.Core.Path.{_∙_, ap}
 use lib.ListN.{length, replicate, length-replicate}
-use Rattle.transfer.specs.PartLaws.{part-is, put-is, length-part}
+use Rattle.arith.specs.Parts.{length-part}
+use Rattle.transfer.specs.PartLaws.{part-is, put-is}
 use borrow.Author.Needs.{needs}
 use Rattle.transfer.proofs.erase_part.Statement.{statement}
 use Rattle.transfer.proofs.erase_part.Tie as tie

@@ -5,13 +5,13 @@ use Rattle.requests.proofs.effects.act_on_first.Tie as tie
 use Rattle.requests.proofs.effects.act_on_first.Reads as reads
 use Rattle.requests.proofs.effects.act_on_first.Lts as lts
 use Rattle.transfer.proofs.erase_part.Reads as erase-part-reads
-use Rattle.transfer.proofs.write_part.Reads as write-part-reads
+use Rattle.requests.proofs.effects.write_on.Reads as write-on-reads
 
 enum-told : tie.Need-enum-told
 enum-told c = search needs
 
-write-part-requires : tie.Need-write-part-requires
-write-part-requires c κs = let h = simp (c .before .enum-told .given .1) at (c .before .before .before .before .before .pre .1) in (omega arith, omega (arith, h))
+write-on-requires : tie.Need-write-on-requires
+write-on-requires c κs = let h = simp (c .before .enum-told .given .1) at (c .before .before .before .before .before .pre .1) in (omega arith, omega (arith, h))
 
 enum-told-2 : tie.Need-enum-told-2
 enum-told-2 c = search needs
@@ -38,7 +38,7 @@ same-length : tie.Need-same-length
 same-length c = search needs
 
 returns : tie.Need-returns
-returns c = simp (← (c .before .before .write-part .ensures), c .before .before .before .before .enum-told .given .1)
+returns c = simp (← (c .before .before .write-on .ensures), c .before .before .before .before .enum-told .given .1)
 
 same-length-2 : tie.Need-same-length-2
 same-length-2 c = search needs
@@ -66,7 +66,7 @@ act-on-first-spec =
     tie.close
     (tie.spec
     enum-told
-    write-part-requires
+    write-on-requires
     enum-told-2
     erase-part-requires
     enum-told-3

@@ -8,13 +8,13 @@ use Rattle.transfer.proofs.blank_part.Reads as blank-part-reads
 use Rattle.transfer.proofs.erase_part.Reads as erase-part-reads
 use Rattle.transfer.proofs.read_part.Reads as read-part-reads
 use Rattle.transfer.proofs.same_part.Reads as same-part-reads
-use Rattle.transfer.proofs.write_part.Reads as write-part-reads
+use Rattle.requests.proofs.effects.write_on.Reads as write-on-reads
 
 enum-told : tie.Need-enum-told
 enum-told c = search needs
 
-write-part-requires : tie.Need-write-part-requires
-write-part-requires c κs = let h = simp (c .before .before .enum-told .given .1) at (c .before .before .before .before .before .before .pre .1) in (omega arith, omega (arith, h))
+write-on-requires : tie.Need-write-on-requires
+write-on-requires c κs = let h = simp (c .before .before .enum-told .given .1) at (c .before .before .before .before .before .before .pre .1) in (omega arith, omega (arith, h))
 
 enum-told-2 : tie.Need-enum-told-2
 enum-told-2 c = search needs
@@ -53,7 +53,7 @@ same-length-2 : tie.Need-same-length-2
 same-length-2 c = search needs
 
 returns : tie.Need-returns
-returns c = (simp (← (c .before .before .write-part .ensures), c .before .before .before .before .before .enum-told .given .1), (simp (← (c .before .before .write-part .ensures), c .before .before .before .before .before .enum-told .given .1), simp (← (c .before .before .write-part .ensures), c .before .before .before .before .before .enum-told .given .1)))
+returns c = (simp (← (c .before .before .write-on .ensures), c .before .before .before .before .before .enum-told .given .1), (simp (← (c .before .before .write-on .ensures), c .before .before .before .before .before .enum-told .given .1), simp (← (c .before .before .write-on .ensures), c .before .before .before .before .before .enum-told .given .1)))
 
 same-length-3 : tie.Need-same-length-3
 same-length-3 c = search needs
@@ -96,7 +96,7 @@ finish-spec =
     tie.close
     (tie.spec
     enum-told
-    write-part-requires
+    write-on-requires
     enum-told-2
     read-part-requires
     enum-told-3

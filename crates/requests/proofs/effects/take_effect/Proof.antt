@@ -9,7 +9,7 @@ use Rattle.requests.proofs.effects.take_effect.Reads as reads
 use Rattle.requests.proofs.effects.take_effect.Lts as lts
 use Rattle.requests.proofs.effects.act_on_first.Reads as act-on-first-reads
 use Rattle.requests.proofs.effects.finish.Reads as finish-reads
-use Rattle.requests.proofs.effects.least.Reads as least-reads
+use Rattle.transfer.proofs.least.Reads as least-reads
 
 enum-told : tie.Need-enum-told
 enum-told c = search needs
@@ -31,6 +31,9 @@ returns c = (simp (c .if1 .taken, ← (c .before .before .before .before .before
 
 enum-known-answer : tie.Need-enum-known-answer
 enum-known-answer c = search needs
+
+cast-least : tie.Need-cast-least
+cast-least c = search needs
 
 least-requires : tie.Need-least-requires
 least-requires c κs = search needs
@@ -73,6 +76,7 @@ take-effect-spec =
     same-length-2
     returns
     enum-known-answer
+    cast-least
     least-requires
     act-on-first-requires
     returns-2

@@ -5,6 +5,7 @@ use Rattle.plan.proofs.records.DeviceRecord.read.Tie as tie
 use Rattle.plan.proofs.records.DeviceRecord.read.Reads as reads
 use Rattle.plan.proofs.records.DeviceRecord.read.Lts as lts
 use Rattle.plan.proofs.number.u16_at.Reads as u16-at-reads
+use Rattle.plan.proofs.records.can_suspend.Reads as can-suspend-reads
 use Rattle.plan.proofs.number.u32_at.Reads as u32-at-reads
 
 add-u32-at : tie.Need-add-u32-at
@@ -31,9 +32,12 @@ add-mark c = search needs
 shared-slice-read-mark : tie.Need-shared-slice-read-mark
 shared-slice-read-mark c = search needs
 
+can-suspend-requires : tie.Need-can-suspend-requires
+can-suspend-requires c κs = search needs
+
 returns : tie.Need-returns
 unfolding deviceAt
-returns c = simp (← (c .before .u16-at .ensures), ← (c .before .before .u32-at2 .ensures), ← (c .before .before .before .u32-at .ensures))
+returns c = simp (← (c .can-suspend .ensures), ← (c .before .before .u16-at .ensures), ← (c .before .before .before .u32-at2 .ensures), ← (c .before .before .before .before .u32-at .ensures))
 
 pub read-spec : {M : Type 1} → statement M
 read-spec =
@@ -47,4 +51,5 @@ read-spec =
     u16-at-requires
     add-mark
     shared-slice-read-mark
+    can-suspend-requires
     returns)
