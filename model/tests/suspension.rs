@@ -1,26 +1,14 @@
 //! Req 02 of document 02, "Erase gives way": sessions on plan E worked out by hand from the paper. The
 //! larger priority is above, so area 2 outranks area 1 and that one area 0.
 
-use model::manager::RequestInfo;
-use model::plan::{load, Chip, Plan};
-use model::plans::{encode, plan_e, plan_f, with_chips};
-use model::session::Session;
+mod bench;
 
-/// A session whose lines are checked one by one.
-struct Bench(Session);
+use bench::{Bench, PLAN_E};
+use model::manager::RequestInfo;
+use model::plan::{load, Chip};
+use model::plans::{encode, plan_e, plan_f, with_chips};
 
 impl Bench {
-    fn on(plan: &Plan) -> Bench {
-        Bench(Session::open(Some(&encode(plan))).expect("an accepted plan"))
-    }
-
-    /// Each line prints its answer.
-    fn run(&mut self, session: &[(&str, &str)]) {
-        for (line, answer) in session {
-            assert_eq!(self.0.answer(line.as_bytes()), *answer, "{line}");
-        }
-    }
-
     fn request(&self, area: u32) -> RequestInfo {
         self.0.manager.job_info(area).expect("a known area").request
     }
@@ -32,24 +20,6 @@ fn check(session: &[(&str, &str)]) {
         Bench::on(&plan).run(session);
     }
 }
-
-/// Plan E byte for byte, written by hand from the fields and widths of document 01.
-#[rustfmt::skip]
-const PLAN_E: [u8; 174] = [
-    0x44, 0x53,  0, 0, 0, 0,  64, 0, 0, 0,  3, 0,
-    0x41, 0x52,  1, 0,  0, 0, 0, 0,  0, 0, 0, 0,  8, 0, 0, 0,
-    0x41, 0x52,  5, 0,  0, 1, 0, 0,  8, 0, 0, 0,  8, 0, 0, 0,
-    0x41, 0x52,  9, 0,  0, 2, 0, 0,  16, 0, 0, 0,  8, 0, 0, 0,
-    0x53, 0x42,  0, 0,  0, 0, 0, 0,
-    16, 0, 0, 0,  16, 0, 0, 0,  4, 0, 0, 0,  4, 0, 0, 0,  1, 0, 0, 0,  8, 0, 0, 0,
-    1, 0, 0, 0,  0, 0,
-    0x53, 0x42,  1, 0,  16, 0, 0, 0,
-    16, 0, 0, 0,  16, 0, 0, 0,  4, 0, 0, 0,  4, 0, 0, 0,  1, 0, 0, 0,  4, 0, 0, 0,
-    1, 0, 0, 0,  1, 0,
-    0x53, 0x42,  2, 0,  32, 0, 0, 0,
-    16, 0, 0, 0,  16, 0, 0, 0,  4, 0, 0, 0,  4, 0, 0, 0,  1, 0, 0, 0,  8, 0, 0, 0,
-    2, 0, 0, 0,  0, 0,
-];
 
 #[test]
 fn plan_e_to_the_byte() {

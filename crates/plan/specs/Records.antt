@@ -16,8 +16,8 @@ use Rattle.plan.specs.declared.records.Plan.{Plan}
 use Rattle.plan.specs.declared.scan.RecordLayout.{RecordLayout}
 use Rattle.plan.specs.declared.scan.RecordFormat.{RecordFormat}
 
--- "Device, mark hex 44 56: physical start 4, length 4, patience 2." Document 02, 02 and 03: with mark 44 53 "the chip can pause"; "a device
--- mark hex 44 46 for such a chip" (a write only clears bits), "which can pause too; the layout is the old one".
+-- "Device, mark hex 44 56: physical start 4, length 4, patience 2." Document 02, 02: "A device record with mark hex 44 53, laid out as before,
+-- means the chip can pause."; 03: on which "a write can turn a bit from 1 to 0 and never back", mark 44 46, "which can pause too".
 unfoldable pub deviceAt : List ℕ → ℕ → DeviceRecord
 deviceAt l at =
     record {
