@@ -58,7 +58,7 @@ pub record Apart (q r : Request) : Type 0 where
   pub store : usesWindow (q .kind) ≡ true → usesWindow (r .kind) ≡ true → (x : ℕ) →
       Among (q .place) (q .length) x → Among (r .place) (r .length) x → ⊥
 
--- byte i of the image, where a write of n bytes at s leaves its own
+-- what a write of n bytes at s leaves in byte i of the image
 written-at : (c : Bool) (s w n : ℕ) (m : Memory) (i : ℕ) → Among s n i →
     getD (written c s w n m) (i - s) 0 ≡ writtenByte c (getD (m .image) i 0) (getD (m .store) (w + (i - s)) 0)
 written-at c s w n m i u =
@@ -71,7 +71,7 @@ written-at c s w n m i u =
 image-after : (c : Bool) (k : JobType) (s w n : ℕ) (m : Memory) → s + n ≤ length (m .image) →
     Made (record { start = s; count = imageBytes k n; value = λ i. actedByte c k (getD (m .image) i 0) (getD (m .store) (w + (i - s)) 0) })
     (m .image) (imageAfter c k s w n m)
-image-after c Write s w n m h = made-put _ n _ (m .image) (length-listed _ 0 n) refl h (λ i u. written-at c s w n m i u)
+image-after c Write s w n m h = made-put _ n _ (m .image) (length-listed _ 0 n) refl h (written-at c s w n m)
 image-after c Erase s w n m h =
     made-put _ n _ (m .image) (length-replicate n 255) refl h (λ i u. getD-replicate n (i - s) 255 0 (omega arith))
 image-after c Read s w n m h = made-none _ (m .image) refl

@@ -23,7 +23,7 @@ written-bit old b k =
     ∙ and-mod (old / 2 ^ k) (b / 2 ^ k) 1
     ∙ digits-and (bit k old) (bit k b) (omega arith) (omega arith)
 
--- and-ed once more with the same byte; fuel n
+-- and-ed once more with the same byte: by halves, of which a number up to n has no more than n
 and-again : (n a b : ℕ) → a ≤ n → bitAnd (bitAnd a b) b ≡ bitAnd a b
 and-again zero a b h = let e : a ≡ 0 = omega arith in rw e
 and-again (suc n) a b h =
