@@ -39,5 +39,5 @@ test:
 	sh examples/recorded-plans.sh --check
 	$(MAKE) --no-print-directory model
 	$(MAKE) --no-print-directory proved-library timing-library
-	cargo test --offline --release --quiet --manifest-path model/Cargo.toml --features timing,session --test proved_load --test proved_calls --test proved_session
+	cargo test --offline --release --quiet --manifest-path model/Cargo.toml --features timing,session --test proved_load --test proved_calls --test proved_session --test proved_queries
 	rt ci

@@ -61,6 +61,19 @@ plan_marks() {
     sub_area 3 2 64 16 16 4 4 1 8 2 1 0
 }
 
+# The largest image and store: devices of 65,536 bytes together, and a window that ends at 65,536. Area 1's window is the store's last byte, area 0's the 16 bytes before it; area 1 lies on the
+# image's last 16 bytes, area 0 on the 16 before them.
+# Its recorded run, from document 01: image byte 65,535 is 255 and store byte 65,535 is 0, so compare ends with 2 and blank check with 0. A write makes the image byte 0: blank check 2, compare 0. A read of image byte
+# 65,534 makes the store byte 255: compare 2. A write makes the image byte 255 again: blank check and compare 0. Area 0's 16 bytes are two pieces of 8 each time; what area 1 does leaves its compare at 0.
+plan_store() {
+    device 0 65520 2
+    device 65520 16 2
+    area 1 0 65519 16
+    area 1 256 65535 1
+    sub_area 0 0 65504 16 16 4 8 1 8 1 0 0
+    sub_area 1 1 65520 16 16 1 1 1 1 1 0 0
+}
+
 # keep FILE: writes standard input to the file, or compares the two
 keep() {
     if [ "$mode" = --check ]; then
@@ -80,6 +93,7 @@ plan_t 64 2 3 3 | keep ../crates/bench_equals/data/plan.bin
 plan_four | keep ../crates/bench_devices/data/plan.bin
 plan_both | keep ../crates/bench_suspends/data/plan.bin
 plan_marks | keep ../crates/bench_clears/data/plan.bin
+plan_store | keep ../crates/bench_store/data/plan.bin
 plan_t 64 0 1 5 | keep ../crates/bench_refused/data/plan.bin
 plan_t 65537 2 1 5 | keep ../crates/bench_sum/data/plan.bin
 head -c 4097 /dev/zero | keep ../crates/bench_long/data/plan.bin

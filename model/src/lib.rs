@@ -23,6 +23,7 @@
 //! - [`named`]: the table of plans whose number follows from the paper by hand;
 //! - [`random`]: the deterministic generator behind everything random;
 //! - [`script`], [`subject`]: whole sessions as values, and the comparison of two that run them;
+//! - [`answers`]: the queries when a session is over, and their comparison;
 //! - [`coverage`]: what the sessions tried;
 //! - [`shrink`]: the smallest session that still shows a difference, and its report;
 //! - [`fuzz`]: sessions of ever new seeds;
@@ -32,6 +33,7 @@
 //! - `proved`: the proved library, called through its C interface (feature `proved`).
 
 pub mod admission;
+pub mod answers;
 pub mod calls;
 pub mod coverage;
 pub mod demands;

@@ -170,6 +170,11 @@ impl Manager {
         self.suspended[device]
     }
 
+    /// Does the area's cancelled job wait for the end of its request?
+    pub fn is_cancelled(&self, area: usize) -> bool {
+        self.areas[area].is_cancelled
+    }
+
     /// What a device does and what is suspended on it: only for tests that make a manager wrong.
     pub fn set_device(&mut self, device: usize, state: DeviceState, suspended: Option<Request>) {
         self.devices[device] = state;

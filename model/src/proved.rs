@@ -6,6 +6,8 @@
 #![allow(unsafe_code)]
 
 #[cfg(feature = "session")]
+pub mod queries;
+#[cfg(feature = "session")]
 pub mod session;
 #[cfg(feature = "timing")]
 pub mod timing;

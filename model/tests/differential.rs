@@ -1,8 +1,9 @@
-//! The comparison of sessions itself: what its sessions try, that it finds subjects that are wrong,
-//! and how small it makes what it finds.
+//! The comparison of sessions itself, and of the queries when they are over: what its sessions try,
+//! that it finds subjects that are wrong, and how small it makes what it finds.
 
 mod mutants;
 
+use model::answers::{self, cut, Queried, Tried};
 use model::coverage::{Clearing, Coverage, Equals, Image, Kind, Marks};
 use model::coverage::{PlanAnswer, Priorities, Suspension};
 use model::fuzz::{fuzz, Ending};
@@ -104,6 +105,27 @@ fn what_is_right_is_not_found() {
         let found = first_difference(&mut right, 62, SESSIONS / 4);
         assert_eq!(found, None, "{}", right.name);
     }
+}
+
+/// The first difference of answers in so many sessions, each cut after any line.
+fn first_wrong_answer(subject: &dyn Queried, seed: u64, sessions: u32) -> Option<Script> {
+    let mut random = Random::new(seed);
+    let mut scripts = (0..sessions).map(|_| {
+        let script = Script::drawn(&mut random, MOST_LINES);
+        cut(&mut random, &script)
+    });
+    let mut tried = Tried::default();
+    scripts.find(|script| answers::compare(subject, script, &mut tried).is_err())
+}
+
+/// Two fields exchanged, one left out, the request of another area and their like.
+#[test]
+fn every_wrong_answer_is_found() {
+    for (number, mutant) in (0..).zip(mutants::queries::all()) {
+        let found = first_wrong_answer(&mutant, 262 + number, SESSIONS);
+        assert!(found.is_some(), "{} was not found", mutant.name);
+    }
+    assert_eq!(first_wrong_answer(&mutants::queries::right_answers(), 262, SESSIONS / 10), None);
 }
 
 /// What is found is made so small that a person sees what is wrong.

@@ -4,7 +4,8 @@ use mathlib.Core.Bool.{true, false, false≢true}
 use mathlib.Core.Path.{_≡_, refl, ap, _∙_}
 use native.Mathlib.Omega.{arith}
 use Rattle.arith.specs.FirstNo.{firstNo}
-use Rattle.memory.specs.Numbers.{admissionNumber, refusalNumber, refusal-some}
+use Rattle.memory.specs.Numbers.{admissionNumber, refusalNumber}
+use Rattle.memory.specs.laws.NumberLaws.{refusal-some}
 use Rattle.memory.specs.declared.Admission.the-variants.{Accepted, Refused}
 use Rattle.memory.specs.declared.JobType.{JobType}
 use Rattle.memory.specs.declared.JobType.the-variants.{NoJob, Write, Read, Compare, Erase, BlankCheck, Lock}

@@ -16,9 +16,9 @@ use Rattle.plan.specs.Questions.{areaOf, areaSize, subAreaOf, sizeOf}
 use Rattle.plan.specs.declared.records.Plan.{Plan}
 use Rattle.plan.specs.declared.records.SubAreaRecord.{SubAreaRecord}
 use Rattle.rules.specs.Admission.{isInside, lockTask, onOneDevice}
-use Rattle.segment.specs.CutLaws.{segments-end, cut-next}
-use Rattle.segment.specs.MappingLaws.{place-of}
-use Rattle.segment.specs.SegmentLaws.{segment-is}
+use Rattle.segment.specs.laws.CutLaws.{segments-end, cut-next}
+use Rattle.segment.specs.laws.MappingLaws.{place-of}
+use Rattle.segment.specs.laws.SegmentLaws.{segment-is}
 use Rattle.segment.specs.Segments.{segmentLength, segmentAt, segmentsFrom, spans, spansAfter}
 
 -- a part of a lock's range is all that is left of it in the sub-area

@@ -13,14 +13,15 @@ use Rattle.arith.specs.Plain.{plain}
 use Rattle.memory.specs.declared.JobType.{JobType}
 use Rattle.memory.specs.declared.JobType.the-variants.{NoJob, Write, Read, Compare, Erase, BlankCheck, Lock}
 use Rattle.memory.specs.declared.LogicalAddress.{LogicalAddress}
+use Rattle.memory.specs.declared.MemAddress.{MemAddress}
 use Rattle.memory.specs.declared.Task.{Task}
 use Rattle.plan.specs.Questions.{areaOf, subAreaOf, areaSize}
 use Rattle.plan.specs.declared.records.Plan.{Plan}
 use Rattle.plan.specs.declared.records.SubAreaRecord.{SubAreaRecord}
 use Rattle.rules.specs.Admission.{isInside, startsOnUnit, endsOnUnit, isAligned}
-use Rattle.segment.specs.Found.{indexOf, Inside, segmentIf, index-within, offset-inside, if-found, located-mapped}
+use Rattle.segment.specs.laws.Found.{indexOf, Inside, segmentIf, index-within, offset-inside, if-found, located-mapped}
 use Rattle.segment.specs.Mapping.{located, mapped}
-use Rattle.segment.specs.MappingLaws.{Place, mapped-place, place-mapped, place-of, place-before-end}
+use Rattle.segment.specs.laws.MappingLaws.{Place, mapped-place, place-mapped, place-of, place-before-end}
 use Rattle.segment.specs.Segments.{isLock, unitOf, retriesOf, segmentOf, segmentAt}
 use Rattle.segment.specs.declared.Found.{Found}
 use Rattle.segment.specs.declared.Found.the-variants.{Outside, At}
@@ -28,20 +29,25 @@ use Rattle.segment.specs.declared.Segment.{Segment}
 
 abbrev pub isFound : Found → Bool
 isFound Outside = false
-isFound (At i y) = true
+isFound (At i y m) = true
 
 abbrev pub offsetOf : Found → ℕ
 offsetOf Outside = 0
-offsetOf (At i y) = y
+offsetOf (At i y m) = y
 
 -- the last of n bytes from logical address x on, in area a, which starts at `start`
 abbrev pub lastByte : List SubAreaRecord → ℕ → ℕ → ℕ → ℕ → ℕ → Found
 lastByte l count start a x n = pick (leb 1 n && leb start x) (located l count start a (x + n - 1)) Outside
 
 -- k bytes before a place, if the sub-area reaches so far back
+-- the address found is no smaller than the offset
+abbrev pub Behind : Found → Type 0
+Behind Outside = Unit
+Behind (At i y m) = y ≤ m .0
+
 abbrev pub backFrom : Found → ℕ → Found
 backFrom Outside k = Outside
-backFrom (At i y) k = pick (ltb y k) Outside (At i (y - k))
+backFrom (At i y m) k = pick (ltb y k) Outside (At i (y - k) (record { 0 = m .0 - k }))
 
 -- a range inside its area has a byte
 pub inside-some : (p : Plan) (a : ℕ) (address : LogicalAddress) (n : ℕ) → isInside p a address n ≡ true → 1 ≤ n
@@ -73,8 +79,8 @@ module _ (p : Plan) (a : ℕ) (address : LogicalAddress) (n : ℕ) where
           let z : _≡_ {A = ℕ} 0 1 = cc in
           absurd (omega arith))
           (λ g _. simp (le-leb 1 n some, le-leb (areaOf (p .areas) a .start .0) (address .0) from, g))
-      inside-last (At i y) e =
-          let place = mapped-place p a (address .0 + n - 1) i y (sym e) in
+      inside-last (At i y m) e =
+          let place = mapped-place p a (address .0 + n - 1) i y m (sym e) .0 in
           sym (simp plain (some, (from, omega (arith, place-before-end p a place))))
 
       last-is : lastIn ≡ mapped p a (record { 0 = address .0 + n - 1 })
@@ -110,7 +116,7 @@ module _ (p : Plan) (a : ℕ) (address : LogicalAddress) (n : ℕ) where
       let here = place-mapped p a place in
       let z : _≡_ {A = ℕ} 0 1 = cc in
       absurd (omega arith)
-  first-found e (At i y) g = refl
+  first-found e (At i y m) g = refl
 
 -- what was found lies in one of the records that a plan keeps, and no further in than its address
 module _ (p : Plan) (a x : ℕ) where
@@ -119,20 +125,25 @@ module _ (p : Plan) (a x : ℕ) where
 
   pub mapped-offset : (f : Found) → f ≡ mapped p a (record { 0 = x }) → offsetOf f ≤ x
   mapped-offset Outside e = omega arith
-  mapped-offset (At i y) e = let place = mapped-place p a x i y (sym e) in omega (arith, place .is-at)
+  mapped-offset (At i y m) e = let place = mapped-place p a x i y m (sym e) .0 in omega (arith, place .is-at)
 
   pub mapped-inside : (f : Found) → f ≡ mapped p a (record { 0 = x }) → Inside (subAreaOf (p .«sub_areas») (indexOf f)) f
   mapped-inside f e = offset-inside (p .«sub_areas») a (p .«sub_area_count») (areaOf (p .areas) a .start .0) x f (e ∙ sym (located-mapped p a x))
+
+  pub mapped-behind : (f : Found) → f ≡ mapped p a (record { 0 = x }) → Behind f
+  mapped-behind Outside e = tt
+  mapped-behind (At i y m) e = omega (arith, ap (λ (z : MemAddress). z .0) (mapped-place p a x i y m (sym e) .1))
 
   -- n bytes end at a place: the first of them, if it is in the same sub-area
   pub back-mapped : (n : ℕ) (f : Found) → f ≡ mapped p a (record { 0 = x + n - 1 }) → 1 ≤ n → isFound (backFrom f (n - 1)) ≡ true →
       backFrom f (n - 1) ≡ mapped p a (record { 0 = x })
   back-mapped n Outside e some h = absurd (false≢true h)
-  back-mapped n (At i y) e some h =
+  back-mapped n (At i y m) e some h =
       by-ltb y (n - 1) (λ t _. absurd (false≢true (rw t at h))) λ t l.
-      let place = mapped-place p a (x + n - 1) i y (sym e) in
+      let (place, address) = mapped-place p a (x + n - 1) i y m (sym e) in
       let here : Place p a x i (y - (n - 1)) = record { known = place .known; of-area = place .of-area; inside = omega (arith, place .inside); is-at = omega (arith, place .is-at) } in
-      rw t (sym (place-mapped p a here))
+      let lower : subAreaOf (p .«sub_areas») i .start + y - (n - 1) ≡ subAreaOf (p .«sub_areas») i .start + (y - (n - 1)) = omega arith in
+      rw (t, address, lower) (sym (place-mapped p a here))
 
 -- question 13 of a range inside its area, by the records that hold its first and its last byte
 module _ (p : Plan) (a : ℕ) (t : Task) (f : Found) (first : f ≡ mapped p a (t .address)) where
@@ -146,8 +157,8 @@ module _ (p : Plan) (a : ℕ) (t : Task) (f : Found) (first : f ≡ mapped p a (
           (multiple (unitOf (t .kind) (subAreaOf (p .«sub_areas») (indexOf f))) (offsetOf f) && multiple (unitOf (t .kind) (subAreaOf (p .«sub_areas») (indexOf g))) (offsetOf g + 1))
           ≡ (startsOnUnit (t .kind) (p .«sub_areas») f && endsOnUnit (t .kind) (p .«sub_areas») g)
       by-found Outside h g k = absurd (false≢true h)
-      by-found (At i y) h Outside k = absurd (false≢true k)
-      by-found (At i y) h (At j z) k = refl
+      by-found (At i y m) h Outside k = absurd (false≢true k)
+      by-found (At i y m) h (At j z o) k = refl
 
   pub aligned-ends : (g : Found) → isFound g ≡ true → (isInside p a (t .address) (t .length) ≡ true) × (g ≡ mapped p a (record { 0 = t .address .0 + t .length - 1 })) →
       (i j : ℕ) → i ≡ indexOf f → j ≡ indexOf g → (answer : Bool) →
@@ -177,7 +188,7 @@ lock-retries Erase e s = absurd (false≢true e)
 
 lock-segment : (k : JobType) → isLock k ≡ true → (l : List SubAreaRecord) (r : ℕ) (f : Found) → 0 ≡ segmentOf k l r f .retries
 lock-segment k e l r Outside = refl
-lock-segment k e l r (At i y) = lock-retries k e (subAreaOf l i)
+lock-segment k e l r (At i y m) = lock-retries k e (subAreaOf l i)
 
 pub lock-first : (p : Plan) (a : ℕ) (t : Task) → isLock (t .kind) ≡ true → 0 ≡ segmentAt p a t 0 .retries
 unfolding segmentAt

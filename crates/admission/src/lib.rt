@@ -9,11 +9,12 @@ ghost use Rattle.memory.specs.Numbers.{admissionNumber};
 ghost use Rattle.memory.specs.declared.Admission.the-variants.{Accepted, Refused};
 ghost use Rattle.segment.specs.Mapping.{mapped};
 ghost use Rattle.segment.specs.Segments.{unitOf, segmentAt};
-ghost use Rattle.admission.specs.RangeLaws.{isFound, offsetOf, lastByte, backFrom};
+ghost use Rattle.admission.specs.RangeLaws.{isFound, offsetOf, lastByte, Behind, backFrom};
 ghost use Rattle.rules.specs.Admission.{isInside, usesWindow, ifAsked, lockTask, onOneDevice, rangeDevice, rangeQuestions};
 use memory::Admission;
 use memory::JobType;
 use memory::LogicalAddress;
+use memory::MemAddress;
 use memory::Refusal;
 use memory::Task;
 use plan::number::is_multiple;
@@ -63,6 +64,7 @@ fn is_found(found: Found) -> bool
         Found::At {
             sub_area: _,
             offset: _,
+            address: _,
         } => true,
     }
 }
@@ -75,6 +77,7 @@ fn offset_of(found: Found) -> u64
         Found::At {
             sub_area: _,
             offset,
+            address: _,
         } => offset,
     }
 }
@@ -97,8 +100,7 @@ fn last_byte(
     if address.0 < start.0 {
         return Found::Outside;
     }
-    let last = (address.0 as u64) + (n as u64) - 1;
-    locate(sub_areas, count, start, area, last)
+    locate(sub_areas, count, start, area, address, n - 1)
 }
 
 // Question 12: is the range inside the area, and of at least one byte?
@@ -114,17 +116,24 @@ pub fn is_inside(plan: Plan, area: usize, address: LogicalAddress, n: u32) -> bo
 
 // The place so many bytes before one that was found, if it is in the same sub-area.
 fn back_from(found: Found, n: u64) -> Found
+    requires { ⌜ Behind found ⌝ }
     ensures { λ r. ⌜ r ≡ backFrom found n ⌝ }
 {
     match found {
         Found::Outside => Found::Outside,
-        Found::At { sub_area, offset } => {
+        Found::At {
+            sub_area,
+            offset,
+            address,
+        } => {
             if offset < n {
                 return Found::Outside;
             }
+            let start = address.0 - n;
             Found::At {
                 sub_area,
                 offset: offset - n,
+                address: MemAddress(start),
             }
         }
     }
@@ -139,7 +148,8 @@ fn first_byte(plan: Plan, area: usize, task: Task, last: Found) -> Found
     if is_found(near) {
         return near;
     }
-    map_address(plan, area, task.address.0 as u64)
+    let address = task.address;
+    map_address(plan, area, address)
 }
 
 // Question 13: do start and end of the range lie on a unit of the sub-areas they are in?

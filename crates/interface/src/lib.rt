@@ -4,7 +4,12 @@ ghost use Prim.Native.Nat.{_≤_};
 ghost use lib.ListN.{length, take};
 ghost use Rattle.requests.specs.Effects.{memoryOf};
 ghost use Rattle.session.specs.Fold.{playedAll};
+ghost use Rattle.interface.specs.Queries.{queryView};
 ghost use Rattle.interface.specs.Views.{jobView, areaView, noAreaView, areaViews, noStateView, stateView, keptView, deviceView, noDeviceView, deviceViews, loadView};
+
+pub mod queries;
+
+use crate::queries::QueryView;
 use manager::Manager;
 use memory::JobResult;
 use memory::LogicalAddress;
@@ -228,9 +233,46 @@ pub extern "C" fn luvdrog_session(
     ensures { λ r. ⌜ r .used ≡ playedAll (now (plan .entry)) (now (input .entry)) (length (now (out .entry))) (memoryOf (now (image .entry)) (now (store .entry))) .used ⌝ }
     ensures { λ r. ⌜ (r .used ≤ length (now (input .entry))) × (r .written ≤ length (now (out .exit))) ⌝ }
 {
-    let counts = play_all(plan, input, image, store, out);
+    let played = play_all(plan, input, image, store, out);
     SessionView {
-        used: counts.used,
-        written: counts.written,
+        used: played.used,
+        written: played.written,
+    }
+}
+
+// A session, and the queries of one area when it is over.
+#[repr(C)]
+pub struct SessionQueryView {
+    pub session: SessionView,
+    pub queries: QueryView,
+}
+
+// A whole session as above, then every query of the area, memory info at the address. Where the plan is refused the
+// manager is that of all zeros, and every query answers 9.
+#[no_mangle]
+pub extern "C" fn luvdrog_session_query(
+    plan: &[u8],
+    input: &[u8],
+    image: &mut [u8],
+    store: &mut [u8],
+    out: &mut [u8],
+    area: usize,
+    address: u32,
+) -> SessionQueryView
+    ensures { λ _. ⌜ now (image .exit) ≡ playedAll (now (plan .entry)) (now (input .entry)) (length (now (out .entry))) (memoryOf (now (image .entry)) (now (store .entry))) .memory .image ⌝ }
+    ensures { λ _. ⌜ now (store .exit) ≡ playedAll (now (plan .entry)) (now (input .entry)) (length (now (out .entry))) (memoryOf (now (image .entry)) (now (store .entry))) .memory .store ⌝ }
+    ensures { λ r. ⌜ take (r .session .written) (now (out .exit)) ≡ playedAll (now (plan .entry)) (now (input .entry)) (length (now (out .entry))) (memoryOf (now (image .entry)) (now (store .entry))) .printed ⌝ }
+    ensures { λ r. ⌜ r .session .used ≡ playedAll (now (plan .entry)) (now (input .entry)) (length (now (out .entry))) (memoryOf (now (image .entry)) (now (store .entry))) .used ⌝ }
+    ensures { λ r. ⌜ (r .session .used ≤ length (now (input .entry))) × (r .session .written ≤ length (now (out .exit))) ⌝ }
+    ensures { λ r. ⌜ r .queries ≡ queryView (playedAll (now (plan .entry)) (now (input .entry)) (length (now (out .entry))) (memoryOf (now (image .entry)) (now (store .entry))) .manager) area (record { 0 = address }) ⌝ }
+{
+    let played = play_all(plan, input, image, store, out);
+    let manager = played.manager;
+    SessionQueryView {
+        session: SessionView {
+            used: played.used,
+            written: played.written,
+        },
+        queries: QueryView::of(manager, area, LogicalAddress(address)),
     }
 }

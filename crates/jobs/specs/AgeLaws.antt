@@ -6,7 +6,8 @@ use lib.Dec.{eqb}
 use lib.ListN.{getD}
 use Rattle.arith.specs.Cases.{pick}
 use Rattle.rules.specs.Ranks.{older, agesAfter}
-use Rattle.state.specs.Ages.{ageIn, age-at}
+use Rattle.state.specs.Ages.{ageIn}
+use Rattle.state.specs.laws.AgesLaws.{age-at}
 
 -- the age of area b when a job of area a is accepted
 pub age-turn : (ages : List ℕ) (a b : ℕ) → a < 8 → b < 8 →

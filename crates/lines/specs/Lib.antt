@@ -1,5 +1,5 @@
 pub mod Number
 pub mod Fields
 pub mod Lines
-pub mod LineLaws
-pub mod Examples
+pub mod runs
+pub mod laws

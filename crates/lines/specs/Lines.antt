@@ -51,12 +51,12 @@ abbrev pub failedAfter : Number → AnswerWord
 failedAfter NoNumber = NoAnswer
 failedAfter (Value k) = Answer (Failed k)
 
-unfoldable pub answerOf : List ℕ → AnswerWord
-answerOf f = pick (isLetter 112 f) (Answer Pending) (pick (isLetter 100 f) (Answer Done) (failedAfter (numberOf f)))
+unfoldable pub answerWord : List ℕ → AnswerWord
+answerWord f = pick (isLetter 112 f) (Answer Pending) (pick (isLetter 100 f) (Answer Done) (failedAfter (numberOf f)))
 
 abbrev pub firstAnswer : List (List ℕ) → AnswerWord
 firstAnswer [] = NoAnswer
-firstAnswer (f ∷ fs) = answerOf f
+firstAnswer (f ∷ fs) = answerWord f
 
 -- a device beyond the plan's takes no field: "The answer for a device with nothing running is ignored."
 abbrev pub answerFor : ℕ → ℕ → List (List ℕ) → AnswerWord

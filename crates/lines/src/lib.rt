@@ -2,8 +2,9 @@
 ghost use mathlib.Core.Path.{_≡_};
 ghost use Prim.Native.Nat.{_≤_, _<_};
 ghost use lib.ListN.{length};
-ghost use Rattle.lines.specs.Fields.{cutFrom, fieldsFrom, rest, word};
-ghost use Rattle.lines.specs.Lines.{firstNumber, onlyNumber, targetIn, targetOf, isLetter, failedAfter, answerOf, firstAnswer, answerFor, restFor, roundIn, answersOf, roundLine, kindOf, jobIn, jobLine, releaseLine, cancelLine, infoLine, lineOfType, lineOf};
+ghost use Rattle.lines.specs.Fields.{cutFrom, fieldsFrom, rest};
+ghost use Rattle.lines.specs.laws.FieldLaws.{word};
+ghost use Rattle.lines.specs.Lines.{firstNumber, onlyNumber, targetIn, targetOf, isLetter, failedAfter, answerWord, firstAnswer, answerFor, restFor, roundIn, answersOf, roundLine, kindOf, jobIn, jobLine, releaseLine, cancelLine, infoLine, lineOfType, lineOf};
 ghost use Rattle.lines.specs.Number.{numberOf};
 ghost use mathlib.Core.List.{_∷_};
 ghost use Prim.Native.Nat.{_+_};
@@ -66,7 +67,7 @@ fn wide(byte: u8) -> u64
 }
 
 // The number that a field's bytes say. Every number of a line is read here.
-pub fn number_of(text: &[u8]) -> Number
+fn number_of(text: &[u8]) -> Number
     ensures { λ r. ⌜ r ≡ numberOf (now (text .entry)) ⌝ }
 {
     let mut value: u64 = 0;
@@ -191,8 +192,8 @@ fn failed_after(number: Number) -> AnswerWord
     }
 }
 
-pub fn answer_of(text: &[u8]) -> AnswerWord
-    ensures { λ r. ⌜ r ≡ answerOf (now (text .entry)) ⌝ }
+fn answer_of(text: &[u8]) -> AnswerWord
+    ensures { λ r. ⌜ r ≡ answerWord (now (text .entry)) ⌝ }
 {
     if is_letter(b'p', text) {
         return AnswerWord::Answer(DeviceAnswer::Pending);

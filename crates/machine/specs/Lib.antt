@@ -1,7 +1,2 @@
-pub mod QueryLaws
-pub mod QuestionLaws
 pub mod Sound
-pub mod Dues
-pub mod Arrays
-pub mod SoundLaws
-pub mod DeviceLaws
+pub mod laws

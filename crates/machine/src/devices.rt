@@ -78,7 +78,7 @@ fn holds(device: Device, area: usize) -> bool
 }
 
 // Does a device hold a request of the area?
-pub fn held_somewhere(devices: [Device; 4], area: usize) -> bool
+pub(crate) fn held_somewhere(devices: [Device; 4], area: usize) -> bool
     ensures { λ r. ⌜ r ≡ some (λ d. holds area (deviceIn devices d)) 4 ⌝ }
 {
     let mut d = 0;
@@ -116,7 +116,7 @@ fn area_held(plan: Plan, areas: [Area; 8], devices: [Device; 4], area: usize) ->
 }
 
 // Is the device locked for the area?
-pub fn holds_lock(devices: [Device; 4], device: usize, area: usize) -> bool
+pub(crate) fn holds_lock(devices: [Device; 4], device: usize, area: usize) -> bool
     ensures { λ r. ⌜ r ≡ holdsLock area (stateIn devices device) ⌝ }
 {
     let state = state_on(devices, device);

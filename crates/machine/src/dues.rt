@@ -2,7 +2,7 @@
 ghost use mathlib.Core.Path.{_≡_};
 ghost use Prim.Native.Nat.{_≤_};
 ghost use Rattle.arith.specs.Bounded.{every};
-ghost use Rattle.machine.specs.Dues.{dueFound, duesOf, fitsIn};
+ghost use Rattle.machine.specs.laws.Dues.{dueFound, duesOf, fitsIn};
 use crate::soundness::runner;
 use crate::soundness::state_fits;
 use jobs::is_pending;
@@ -35,12 +35,13 @@ fn locate_due(
     if !is_pending(job) {
         return Found::Outside;
     }
-    let address = (job.task.address.0 as u64) + (job.processed as u64);
-    locate(sub_areas, count, start, area, address)
+    let task = job.task;
+    let address = task.address;
+    locate(sub_areas, count, start, area, address, job.processed)
 }
 
 // One copy of the records serves all lookups of the loop; `segment_from` would make one more for each.
-pub fn due_segments(
+pub(crate) fn due_segments(
     sub_areas: [SubAreaRecord; 32],
     count: usize,
     area_records: [AreaRecord; 8],
@@ -66,7 +67,7 @@ pub fn due_segments(
 }
 
 // The soundness test of the devices' states, with the due segments.
-pub fn states_fit(
+pub(crate) fn states_fit(
     device_records: [DeviceRecord; 4],
     device_count: usize,
     area_records: [AreaRecord; 8],

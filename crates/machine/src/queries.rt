@@ -144,10 +144,14 @@ pub fn memory_info(plan: Plan, area: usize, address: LogicalAddress) -> MemoryIn
     requires { ⌜ (plan .«sub_area_count» ≤ 32) × (area < 8) ⌝ }
     ensures { λ r. ⌜ r ≡ memoryInfoOf plan area address ⌝ }
 {
-    let found = map_address(plan, area, address.0 as u64);
+    let found = map_address(plan, area, address);
     match found {
         Found::Outside => no_memory(),
-        Found::At { sub_area, offset } => {
+        Found::At {
+            sub_area,
+            offset,
+            address: _,
+        } => {
             let records = plan.sub_areas;
             memory_in(address, records[sub_area], offset)
         }

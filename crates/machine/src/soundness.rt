@@ -3,7 +3,7 @@ ghost use mathlib.Core.Path.{_≡_};
 ghost use Prim.Native.Nat.{_+_, _≤_, _<_};
 ghost use Rattle.arith.specs.Bounded.{every, some};
 ghost use Rattle.machine.specs.Sound.{jobRuns, segmentFits, stateSound, jobIn, stateIn, isSound};
-ghost use Rattle.machine.specs.Dues.{runnerOf, stateFits, runningSegment, isRunning};
+ghost use Rattle.machine.specs.laws.Dues.{runnerOf, stateFits, runningSegment, isRunning};
 use admission::uses_window;
 use jobs::is_pending;
 use plan::checks::counts_fit;
@@ -78,7 +78,7 @@ pub fn runner(state: DeviceState) -> usize
 }
 
 // May the device be in this state, where the job of its request's area is this one, with this segment due?
-pub fn state_fits(
+pub(crate) fn state_fits(
     sum: u64,
     device_record: DeviceRecord,
     area_count: usize,

@@ -9,7 +9,7 @@ use Rattle.arith.specs.Cases.{pick}
 use Rattle.arith.specs.FirstNo.{firstNo}
 use Rattle.arith.specs.Tables.{table}
 use Rattle.machine.specs.Sound.{isSound, coreIn}
-use Rattle.memory.specs.Numbers.{statusNumber}
+use Rattle.memory.specs.Numbers.{jobTypeNumber, statusNumber}
 use Rattle.memory.specs.declared.DeviceAnswer.{DeviceAnswer}
 use Rattle.memory.specs.declared.JobResult.{JobResult}
 use Rattle.memory.specs.declared.LogicalAddress.{LogicalAddress}
@@ -39,8 +39,8 @@ abbrev pub rankedOf : Manager → Layout
 rankedOf m = layoutAt (m .plan) (ageIn (m .ages))
 
 -- question 9, then those of the call: "The first 'no' gives its number."
-abbrev pub numberOf : Manager → List Bool → ℕ
-numberOf m questions = firstNo 9 (isSound (m .plan) (m .areas) (m .devices) ∷ questions)
+abbrev pub soundNumber : Manager → List Bool → ℕ
+soundNumber m questions = firstNo 9 (isSound (m .plan) (m .areas) (m .devices) ∷ questions)
 
 -- "any other refusal returns the number and the manager given", "other answer fields 0": the first where the number is 0
 abbrev pub ifAccepted : {A : Type 0} → ℕ → A → A → A
@@ -70,14 +70,14 @@ withDevice d x m = record { plan = m .plan; areas = m .areas; devices = set (m .
 
 -- one of the five jobs, or a lock request: "An accepted job makes its area pending and sets processed length and counts to 0"
 unfoldable pub jobNumberOf : Manager → ℕ → Task → ℕ
-jobNumberOf m a t = numberOf m (jobQuestions (m .plan) (coreOf m) a t)
+jobNumberOf m a t = soundNumber m (jobQuestions (m .plan) (coreOf m) a t)
 
 unfoldable pub afterJob : Manager → ℕ → Task → Manager
 afterJob m a t = ifAccepted (jobNumberOf m a t) (withAccepted a (begin (layoutOf (m .plan)) a t (coreOf m) .jobs a) noWaits m) m
 
 -- a release: "Release clears the lock."
 unfoldable pub releaseNumberOf : Manager → ℕ → LogicalAddress → ℕ → ℕ
-releaseNumberOf m a address n = numberOf m (releaseQuestions (m .plan) (coreOf m) a address n)
+releaseNumberOf m a address n = soundNumber m (releaseQuestions (m .plan) (coreOf m) a address n)
 
 unfoldable pub afterRelease : Manager → ℕ → LogicalAddress → ℕ → Manager
 afterRelease m a address n =
@@ -86,14 +86,14 @@ afterRelease m a address n =
 
 -- a cancel
 unfoldable pub cancelNumberOf : Manager → ℕ → ℕ
-cancelNumberOf m a = numberOf m (cancelQuestions (m .plan) (coreOf m) a)
+cancelNumberOf m a = soundNumber m (cancelQuestions (m .plan) (coreOf m) a)
 
 unfoldable pub afterCancel : Manager → ℕ → Manager
 afterCancel m a = ifAccepted (cancelNumberOf m a) (withArea a (cancel (layoutOf (m .plan)) a (coreOf m) .jobs a) (waitsIn (m .areas) a) m) m
 
 -- queries: they leave the manager as it is
 unfoldable pub infoNumberOf : Manager → ℕ → ℕ
-infoNumberOf m a = numberOf m (infoQuestions (m .plan) a)
+infoNumberOf m a = soundNumber m (infoQuestions (m .plan) a)
 
 unfoldable pub statusOf : Manager → ℕ → ℕ
 statusOf m a = ifAccepted (infoNumberOf m a) (statusNumber (coreOf m .jobs a .status)) 0
@@ -110,8 +110,12 @@ noJobInfo = record { task = noJob .task; result = record { 0 = 0 }; processed = 
 unfoldable pub infoOf : Manager → ℕ → JobInfo
 infoOf m a = ifAccepted (infoNumberOf m a) (jobInfoOf (m .plan) (coreOf m) (waitsIn (m .areas) a) a) noJobInfo
 
+-- the type in it: "Job types are those of 000"
+unfoldable pub jobTypeOf : Manager → ℕ → ℕ
+jobTypeOf m a = ifAccepted (infoNumberOf m a) (jobTypeNumber (coreOf m .jobs a .task .kind)) 0
+
 unfoldable pub memoryInfoNumberOf : Manager → ℕ → LogicalAddress → ℕ
-memoryInfoNumberOf m a address = numberOf m (memoryInfoQuestions (m .plan) a address)
+memoryInfoNumberOf m a address = soundNumber m (memoryInfoQuestions (m .plan) a address)
 
 unfoldable pub memoryOfArea : Manager → ℕ → LogicalAddress → MemoryInfo
 memoryOfArea m a address = ifAccepted (memoryInfoNumberOf m a address) (memoryInfoOf (m .plan) a address) noMemoryInfo

@@ -1,3 +1,3 @@
 pub mod Calls
-pub mod CallLaws
 pub mod Load
+pub mod laws

@@ -1,10 +1,10 @@
 // The manager: its state by value, and its calls.
 ghost use mathlib.Core.Path.{_≡_};
-ghost use Rattle.memory.specs.Numbers.{admissionNumber};
+ghost use Rattle.memory.specs.Numbers.{jobTypeNumber, admissionNumber};
 ghost use Rattle.plan.specs.Questions.{loadNumber};
 ghost use Prim.Native.Nat.{_<_};
 ghost use Rattle.memory.specs.declared.JobType.the-variants.{Write, Read, Compare, Erase, BlankCheck, Lock};
-ghost use Rattle.manager.specs.Calls.{withArea, withAccepted, withDevice, jobNumberOf, afterJob, releaseNumberOf, afterRelease, cancelNumberOf, afterCancel, infoNumberOf, statusOf, resultOf, processedOf, noJobInfo, infoOf, memoryInfoNumberOf, memoryOfArea, roundNumberOf, afterRound, memoryAfterRound};
+ghost use Rattle.manager.specs.Calls.{withArea, withAccepted, withDevice, jobNumberOf, afterJob, releaseNumberOf, afterRelease, cancelNumberOf, afterCancel, infoNumberOf, statusOf, resultOf, processedOf, noJobInfo, infoOf, jobTypeOf, memoryInfoNumberOf, memoryOfArea, roundNumberOf, afterRound, memoryAfterRound};
 ghost use Rattle.machine.specs.Sound.{jobIn, deviceIn};
 ghost use Rattle.rounds.specs.Close.{waitsIn};
 ghost use Rattle.rules.specs.Machine.{doing};
@@ -401,6 +401,7 @@ impl Manager {
     pub fn job_info(self, area: usize) -> JobInfoAnswer
         ensures { λ r. ⌜ admissionNumber (r .answer) ≡ infoNumberOf self area ⌝ }
         ensures { λ r. ⌜ r .info ≡ infoOf self area ⌝ }
+        ensures { λ r. ⌜ jobTypeNumber (r .info .task .kind) ≡ jobTypeOf self area ⌝ }
     {
         let answer = self.query_admission(area);
         match answer {

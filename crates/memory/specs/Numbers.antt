@@ -1,6 +1,5 @@
 -- The papers' number for each case of an enum.
-use Prim.Native.Nat.{ℕ, _<_}
-use native.Mathlib.Omega.{arith}
+use Prim.Native.Nat.{ℕ}
 use Rattle.memory.specs.declared.JobType.{JobType}
 use Rattle.memory.specs.declared.JobType.the-variants as JobTypes
 use Rattle.memory.specs.declared.JobStatus.{JobStatus}
@@ -52,25 +51,3 @@ refusalNumber Refusals.StoreLength = 19
 abbrev pub admissionNumber : Admission → ℕ
 admissionNumber Admissions.Accepted = 0
 admissionNumber (Admissions.Refused q) = refusalNumber q
-
--- no refusal has the number of acceptance
-pub refusal-some : (q : Refusal) → 0 < refusalNumber q
-refusal-some Refusals.Records = omega arith
-refusal-some Refusals.Counts = omega arith
-refusal-some Refusals.Devices = omega arith
-refusal-some Refusals.Windows = omega arith
-refusal-some Refusals.Sizes = omega arith
-refusal-some Refusals.Placement = omega arith
-refusal-some Refusals.AreaSpaces = omega arith
-refusal-some Refusals.SharedBytes = omega arith
-refusal-some Refusals.Unsound = omega arith
-refusal-some Refusals.UnknownArea = omega arith
-refusal-some Refusals.Busy = omega arith
-refusal-some Refusals.Range = omega arith
-refusal-some Refusals.Alignment = omega arith
-refusal-some Refusals.WindowLength = omega arith
-refusal-some Refusals.SeveralDevices = omega arith
-refusal-some Refusals.NotHolder = omega arith
-refusal-some Refusals.NotPending = omega arith
-refusal-some Refusals.ImageLength = omega arith
-refusal-some Refusals.StoreLength = omega arith

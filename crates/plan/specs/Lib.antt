@@ -2,10 +2,5 @@ pub mod Number
 pub mod Records
 pub mod Questions
 pub mod WellFormed
-pub mod RecordLaws
-pub mod QuestionLaws
-pub mod SizeLaws
-pub mod Whole
-pub mod Accepted
-pub mod LoadLaws
-pub mod Examples
+pub mod runs
+pub mod laws

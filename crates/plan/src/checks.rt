@@ -49,14 +49,14 @@ fn are_apart(s: u64, n: u64, t: u64, m: u64) -> bool
 }
 
 impl DeviceRecord {
-    pub fn end(self) -> u64
+    pub(crate) fn end(self) -> u64
         ensures { λ r. ⌜ r ≡ deviceEnd self ⌝ }
     {
         (self.start as u64) + (self.length as u64)
     }
 
     // Does it start where it is due, and has it a length and a poll limit?
-    pub fn joins(self, due: u64) -> bool
+    pub(crate) fn joins(self, due: u64) -> bool
         ensures { λ r. ⌜ r ≡ deviceJoins due self ⌝ }
     {
         if self.start as u64 != due {
@@ -76,13 +76,13 @@ impl AreaRecord {
         (self.window.start as u64) + (self.window.length as u64)
     }
 
-    pub fn window_fits(self) -> bool
+    pub(crate) fn window_fits(self) -> bool
         ensures { λ r. ⌜ r ≡ leb (windowEnd self) 65536 ⌝ }
     {
         self.window_end() <= 65536
     }
 
-    pub fn is_apart(self, other: AreaRecord) -> bool
+    pub(crate) fn is_apart(self, other: AreaRecord) -> bool
         ensures { λ r. ⌜ r ≡ windowsApart self other ⌝ }
     {
         are_apart(
@@ -115,13 +115,13 @@ impl SubAreaRecord {
         (self.erase.unit as u64) * (self.sector_count as u64)
     }
 
-    pub fn end(self) -> u64
+    fn end(self) -> u64
         ensures { λ r. ⌜ r ≡ endOf self ⌝ }
     {
         (self.start as u64) + self.size()
     }
 
-    pub fn sizes_fit(self) -> bool
+    pub(crate) fn sizes_fit(self) -> bool
         ensures { λ r. ⌜ r ≡ sizesFit self ⌝ }
     {
         let erase = self.erase;
@@ -154,7 +154,7 @@ impl SubAreaRecord {
         self.end() <= device.end()
     }
 
-    pub fn is_placed(
+    pub(crate) fn is_placed(
         self,
         devices: [DeviceRecord; 4],
         device_count: usize,
@@ -176,7 +176,7 @@ impl SubAreaRecord {
         self.is_inside(devices[device])
     }
 
-    pub fn is_apart(self, other: SubAreaRecord) -> bool
+    pub(crate) fn is_apart(self, other: SubAreaRecord) -> bool
         ensures { λ r. ⌜ r ≡ subAreasApart self other ⌝ }
     {
         are_apart(

@@ -12,7 +12,7 @@ fn wide(byte: u8) -> u64
 }
 
 // The number of `width` bytes from `at` on, the least significant first.
-pub fn number_at(bytes: &[u8], at: usize, width: usize) -> u64
+fn number_at(bytes: &[u8], at: usize, width: usize) -> u64
     requires { ⌜ (at + width ≤ length (now bytes)) × (width ≤ 8) ⌝ }
     ensures { λ r. ⌜ (r ≡ numberAt width (now (bytes .entry)) at) × (r < 256 ^ width) ⌝ }
 {
@@ -25,21 +25,21 @@ pub fn number_at(bytes: &[u8], at: usize, width: usize) -> u64
     value
 }
 
-pub fn u8_at(bytes: &[u8], at: usize) -> u8
+pub(crate) fn u8_at(bytes: &[u8], at: usize) -> u8
     requires { ⌜ at + 1 ≤ length (now bytes) ⌝ }
     ensures { λ r. ⌜ r ≡ numberAt 1 (now (bytes .entry)) at ⌝ }
 {
     number_at(bytes, at, 1) as u8
 }
 
-pub fn u16_at(bytes: &[u8], at: usize) -> u16
+pub(crate) fn u16_at(bytes: &[u8], at: usize) -> u16
     requires { ⌜ at + 2 ≤ length (now bytes) ⌝ }
     ensures { λ r. ⌜ r ≡ numberAt 2 (now (bytes .entry)) at ⌝ }
 {
     number_at(bytes, at, 2) as u16
 }
 
-pub fn u32_at(bytes: &[u8], at: usize) -> u32
+pub(crate) fn u32_at(bytes: &[u8], at: usize) -> u32
     requires { ⌜ at + 4 ≤ length (now bytes) ⌝ }
     ensures { λ r. ⌜ r ≡ numberAt 4 (now (bytes .entry)) at ⌝ }
 {

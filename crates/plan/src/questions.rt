@@ -16,7 +16,7 @@ use memory::LogicalAddress;
 use memory::Refusal;
 
 // Question 3.
-pub fn devices_join(devices: [DeviceRecord; 4], count: usize) -> bool
+fn devices_join(devices: [DeviceRecord; 4], count: usize) -> bool
     requires { ⌜ count ≤ 4 ⌝ }
     ensures { λ r. ⌜ r ≡ devicesJoin devices count ⌝ }
 {
@@ -97,7 +97,7 @@ fn windows_are_apart(areas: [AreaRecord; 8], count: usize) -> bool
 }
 
 // Question 4.
-pub fn windows_fit(areas: [AreaRecord; 8], count: usize) -> bool
+fn windows_fit(areas: [AreaRecord; 8], count: usize) -> bool
     requires { ⌜ count ≤ 8 ⌝ }
     ensures { λ r. ⌜ r ≡ windowsFit areas count ⌝ }
 {
@@ -108,7 +108,7 @@ pub fn windows_fit(areas: [AreaRecord; 8], count: usize) -> bool
 }
 
 // Question 5.
-pub fn all_sizes_fit(sub_areas: [SubAreaRecord; 32], count: usize) -> bool
+fn all_sizes_fit(sub_areas: [SubAreaRecord; 32], count: usize) -> bool
     requires { ⌜ count ≤ 32 ⌝ }
     ensures { λ r. ⌜ r ≡ allSizesFit «sub_areas» count ⌝ }
 {
@@ -255,7 +255,7 @@ fn sub_area_is_clear(sub_areas: [SubAreaRecord; 32], j: usize) -> bool
 }
 
 // Question 8.
-pub fn all_apart(sub_areas: [SubAreaRecord; 32], count: usize) -> bool
+fn all_apart(sub_areas: [SubAreaRecord; 32], count: usize) -> bool
     requires { ⌜ count ≤ 32 ⌝ }
     ensures { λ r. ⌜ r ≡ allApart «sub_areas» count ⌝ }
 {
@@ -301,7 +301,7 @@ impl Plan {
     }
 
     // Questions 3 to 8, in their order.
-    pub fn admission(self) -> Admission
+    pub(crate) fn admission(self) -> Admission
         requires { ⌜ countsFit (self .«device_count») (self .«area_count») (self .«sub_area_count») ≡ true ⌝ }
         ensures { λ r. ⌜ admissionNumber r ≡ firstNo 3 (recordQuestions self) ⌝ }
     {

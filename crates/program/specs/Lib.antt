@@ -1,15 +1,4 @@
 pub mod Run
 pub mod Stands
 pub mod Statements
-pub mod Arrays
-pub mod Halves
-pub mod Answers
-pub mod KeptCalls
-pub mod KeptRound
-pub mod Kept
-pub mod Demand1
-pub mod Demand2
-pub mod Demand3
-pub mod FirstCome
-pub mod GivesWay
-pub mod Program
+pub mod laws

@@ -7,37 +7,37 @@ use Rattle.rules.specs.History.{Query, status, result, processed, jobInfo, memo
 use Rattle.rules.specs.Memory.{Memory}
 
 -- the number that a call answers
-abbrev pub queryAnswer : Query → Manager → ℕ
-queryAnswer (status a) m = infoNumberOf m a
-queryAnswer (result a) m = infoNumberOf m a
-queryAnswer (processed a) m = infoNumberOf m a
-queryAnswer (jobInfo a) m = infoNumberOf m a
-queryAnswer (memoryInfo a address) m = memoryInfoNumberOf m a address
+abbrev pub managerQueryNumber : Query → Manager → ℕ
+managerQueryNumber (status a) m = infoNumberOf m a
+managerQueryNumber (result a) m = infoNumberOf m a
+managerQueryNumber (processed a) m = infoNumberOf m a
+managerQueryNumber (jobInfo a) m = infoNumberOf m a
+managerQueryNumber (memoryInfo a address) m = memoryInfoNumberOf m a address
 
-abbrev pub answerOf : Call → Manager → ℕ
-answerOf (submit a t) m = jobNumberOf m a t
-answerOf (releases a address n) m = releaseNumberOf m a address n
-answerOf (cancels a) m = cancelNumberOf m a
-answerOf (asks q) m = queryAnswer q m
-answerOf (round answers lent) m = roundNumberOf m lent
+abbrev pub managerNumber : Call → Manager → ℕ
+managerNumber (submit a t) m = jobNumberOf m a t
+managerNumber (releases a address n) m = releaseNumberOf m a address n
+managerNumber (cancels a) m = cancelNumberOf m a
+managerNumber (asks q) m = managerQueryNumber q m
+managerNumber (round answers lent) m = roundNumberOf m lent
 
 -- the manager that a call hands back
-abbrev pub after : Call → Manager → Manager
-after (submit a t) m = afterJob m a t
-after (releases a address n) m = afterRelease m a address n
-after (cancels a) m = afterCancel m a
-after (asks q) m = m
-after (round answers lent) m = afterRound m answers lent
+abbrev pub managerAfter : Call → Manager → Manager
+managerAfter (submit a t) m = afterJob m a t
+managerAfter (releases a address n) m = afterRelease m a address n
+managerAfter (cancels a) m = afterCancel m a
+managerAfter (asks q) m = m
+managerAfter (round answers lent) m = afterRound m answers lent
 
--- image and store after a call: only a round is lent them
-abbrev pub memoryAfter : Call → Manager → Memory → Memory
-memoryAfter (submit a t) m lent = lent
-memoryAfter (releases a address n) m lent = lent
-memoryAfter (cancels a) m lent = lent
-memoryAfter (asks q) m lent = lent
-memoryAfter (round answers given) m lent = memoryAfterRound m answers given
+-- image and store after a call: only a round is lent them, and the call names them
+abbrev pub managerMemory : Call → Manager → Memory → Memory
+managerMemory (submit a t) m lent = lent
+managerMemory (releases a address n) m lent = lent
+managerMemory (cancels a) m lent = lent
+managerMemory (asks q) m lent = lent
+managerMemory (round answers given) m lent = memoryAfterRound m answers given
 
 -- "Each call gets the manager that the last one returned"
 unfoldable pub runOf : List Call → Manager → Manager
 runOf [] m = m
-runOf (c ∷ cs) m = runOf cs (after c m)
+runOf (c ∷ cs) m = runOf cs (managerAfter c m)

@@ -1,15 +1,20 @@
 -- The manager that calls lead to, seen beside the wait history of the same calls.
 use Prim.Native.Nat.{ℕ, _<_, min}
+use mathlib.Core.List.{List}
 use mathlib.Core.Path.{_≡_}
 use lib.ListN.{length}
 use Rattle.manager.specs.Calls.{coreOf}
+use Rattle.manager.specs.Load.{loadedManager}
 use Rattle.manager.specs.declared.Manager.{Manager}
+use Rattle.plan.specs.Records.{planOf}
 use Rattle.plan.specs.declared.records.Plan.{Plan}
 use Rattle.rounds.specs.Close.{mostWaits, waitsIn}
-use Rattle.rules.specs.History.{Tally, History}
+use Rattle.rules.specs.History.{Tally, History, freshHistory, step, run}
 use Rattle.rules.specs.Machine.{Core}
+use Rattle.rules.specs.statements.Moments.{Moment, Run}
 use Rattle.state.specs.Ages.{ageIn}
 use Rattle.state.specs.declared.Waits.{Waits}
+use Rattle.program.specs.Run.{managerNumber, managerAfter, managerMemory, runOf}
 
 -- "each as the wait book of document 01 has it, or as 4,294,967,295 if that is smaller"
 abbrev pub stuck : Tally → Waits
@@ -43,3 +48,17 @@ pub record Stands (p : Plan) (m : Manager) (h : History) : Type 0 where
   -- the order of acceptance
   pub ages : agesOf m ≡ h .ages
   pub waits : (a : ℕ) → a < 8 → waitsIn (m .areas) a ≡ stuck (h .tallies a)
+
+-- The program as a run of which the demands speak (rules/statements/Moments): jobs, devices, ages, numbers and memory are the manager's. The numbers
+-- without a limit and the requests done are kept by the wait history of the same calls.
+abbrev pub managerMoment : Plan → Manager → History → Moment
+managerMoment p m h =
+    record {
+      now = beside m h;
+      number = λ k. managerNumber k m;
+      next = λ k. beside (managerAfter k m) (step p k h);
+      memory = λ k lent. managerMemory k m lent;
+    }
+
+abbrev pub managerRun : List ℕ → Run
+managerRun l cs = managerMoment (planOf l) (runOf cs (loadedManager l)) (run (planOf l) cs freshHistory)

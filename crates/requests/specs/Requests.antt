@@ -21,10 +21,10 @@ use Rattle.plan.specs.declared.records.Plan.{Plan}
 use Rattle.plan.specs.declared.records.SubAreaRecord.{SubAreaRecord}
 use Rattle.rules.specs.Admission.{usesWindow, ifAsked, imageFits, storeReaches}
 use Rattle.rules.specs.Layout.{Layout, layoutOf}
-use Rattle.rules.specs.Machine.{Core, Verdict, goesOn, finished, differs, failed, due, doing, withBoth, jobFailed, jobFinished, jobDiffers, afterFinished, isCancelling, isPending, takeRunning}
-use Rattle.rules.specs.Memory.{Memory, agrees, verdictOf, memoryAfter}
+use Rattle.rules.specs.Machine.{Core, Verdict, goesOn, finished, differs, failed, due, doing, setBoth, jobFailed, jobFinished, jobDiffers, afterFinished, isCancelling, isPending, takeRunning}
+use Rattle.rules.specs.Memory.{Memory, agrees, verdictOf, answeredMemory}
 use Rattle.rules.specs.Round.{windowPlace, clearsOnly}
-use Rattle.segment.specs.Found.{segmentFrom, segment-from}
+use Rattle.segment.specs.laws.Found.{segmentFrom, segment-from}
 use Rattle.segment.specs.Segments.{noSegment, segmentAt}
 use Rattle.segment.specs.declared.Segment.{Segment}
 use Rattle.state.specs.declared.DeviceState.{DeviceState}
@@ -89,7 +89,7 @@ requestState p d a polls j x m = takenState a polls (requestVerdict p a j x m) (
 abbrev pub requestMemory : Plan → ℕ → ℕ → Job → DeviceAnswer → Memory → Memory
 requestMemory p d a j x m =
     let s = due (layoutOf p) a j in
-    memoryAfter (clearsOnly p d) x (j .task .kind) (s .start .0) (windowPlace p a j) (s .length) m
+    answeredMemory (clearsOnly p d) x (j .task .kind) (s .start .0) (windowPlace p a j) (s .length) m
 
 -- the rules say the same
 pub same-map : {A : Type 0} (f : ℕ → A) (a : ℕ) → f ≡ upd f a (f a)
@@ -97,7 +97,7 @@ same-map f a = fun-ext (λ b. upd-case (λ v. f b ≡ v) f a b (f a) (λ e. ap f
 
 pub taken-core : (p : Layout) (d a polls : ℕ) (v : Verdict) (c : Core) →
     takeRunning p d a polls v (ltb (polls + 1) (p .limit d)) c
-    ≡ withBoth a (takenJob p a v (leb (p .limit d) (polls + 1)) (c .jobs a)) d (takenState a polls v (leb (p .limit d) (polls + 1))) c
+    ≡ setBoth a (takenJob p a v (leb (p .limit d) (polls + 1)) (c .jobs a)) d (takenState a polls v (leb (p .limit d) (polls + 1))) c
 taken-core p d a polls finished c = refl
 taken-core p d a polls differs c = refl
 taken-core p d a polls failed c = refl
@@ -218,9 +218,9 @@ module _ (p : Plan) (d a polls : ℕ) (j : Job) (x : DeviceAnswer) (m : Memory) 
   pub state-taken : (r : DeviceState) → r ≡ takenState a polls found (isDropped p d polls) → r ≡ requestState p d a polls j x m
   state-taken r e = e ∙ ap (λ u. takenState a polls u (isDropped p d polls)) found-is
 
-  pub memory-taken : memoryAfter (clearsOnly p d) x (j .task .kind) (s .start .0) (windowPlace p a j) (s .length) m ≡ requestMemory p d a j x m
+  pub memory-taken : answeredMemory (clearsOnly p d) x (j .task .kind) (s .start .0) (windowPlace p a j) (s .length) m ≡ requestMemory p d a j x m
   unfolding layoutOf
-  memory-taken = ap (λ t. memoryAfter (clearsOnly p d) x (j .task .kind) (t .start .0) (windowPlace p a j) (t .length) m) is
+  memory-taken = ap (λ t. answeredMemory (clearsOnly p d) x (j .task .kind) (t .start .0) (windowPlace p a j) (t .length) m) is
 
   -- the request with the segment found fits the lent memory
   pub found-fits : {image store : List ℕ} → Fits p d a polls j image store →

@@ -3,7 +3,8 @@ ghost use mathlib.Core.Path.{_≡_};
 ghost use Prim.Native.Nat.{_+_, _≤_};
 ghost use lib.ListN.{length};
 ghost use Rattle.arith.specs.Parts.{put};
-ghost use Rattle.rules.specs.Memory.{written, imageAfter, storeAfter, agrees, verdictOf, memoryAfter};
+ghost use Rattle.memory.specs.declared.JobType.the-variants.{Compare};
+ghost use Rattle.rules.specs.Memory.{written, imageAfter, storeAfter, agrees, verdictOf, answeredMemory};
 ghost use Rattle.requests.specs.Effects.{verdict, lentEnd, memoryOf};
 use memory::DeviceAnswer;
 use memory::JobType;
@@ -13,6 +14,7 @@ use transfer::erase_part;
 use transfer::least;
 use transfer::read_part;
 use transfer::same_part;
+use transfer::window_part;
 use transfer::write_part;
 
 // What an answer comes to.
@@ -28,11 +30,21 @@ fn write_on(clears: bool, image: &mut [u8], at: usize, store: &[u8], window: usi
     requires { ⌜ (at + n ≤ length (now image)) × (window + n ≤ length (now store)) ⌝ }
     ensures { λ _. ⌜ now (image .exit) ≡ put at (written clears at window n (memoryOf (now (image .entry)) (now (store .entry)))) (now (image .entry)) ⌝ }
 {
+    let part = window_part(store, window, n);
     if clears {
-        and_part(image, at, store, window, n);
+        and_part(image, at, part);
         return;
     }
-    write_part(image, at, store, window, n);
+    write_part(image, at, part);
+}
+
+// Are the n bytes at `at` in the image those of the window?
+fn compare_on(image: &[u8], at: usize, store: &[u8], window: usize, n: usize) -> bool
+    requires { ⌜ (at + n ≤ length (now image)) × (window + n ≤ length (now store)) ⌝ }
+    ensures { λ r. ⌜ r ≡ agrees Compare at window n (memoryOf (now (image .entry)) (now (store .entry))) ⌝ }
+{
+    let part = window_part(store, window, n);
+    same_part(image, at, part)
 }
 
 // A request that is done: its effect on the lent memory. Answers whether every byte is as the job asks.
@@ -63,7 +75,7 @@ fn finish(
             erase_part(image, at, n);
             true
         }
-        JobType::Compare => same_part(image, at, store, window, n),
+        JobType::Compare => compare_on(image, at, store, window, n),
         JobType::BlankCheck => blank_part(image, at, n),
         JobType::Lock => true,
         JobType::NoJob => true,
@@ -95,7 +107,7 @@ fn act_on_first(
 }
 
 // A request of n bytes at `at` in the image and at `window` in the store takes its answer. `clears`: its device only clears bits.
-pub fn take_effect(
+pub(crate) fn take_effect(
     clears: bool,
     answer: DeviceAnswer,
     kind: JobType,
@@ -107,8 +119,8 @@ pub fn take_effect(
 ) -> Outcome
     requires { ⌜ (at + n ≤ length (now image)) × (lentEnd kind window n ≤ length (now store)) ⌝ }
     ensures { λ r. ⌜ verdict r ≡ verdictOf answer kind at window n (memoryOf (now (image .entry)) (now (store .entry))) ⌝ }
-    ensures { λ _. ⌜ now (image .exit) ≡ memoryAfter clears answer kind at window n (memoryOf (now (image .entry)) (now (store .entry))) .image ⌝ }
-    ensures { λ _. ⌜ now (store .exit) ≡ memoryAfter clears answer kind at window n (memoryOf (now (image .entry)) (now (store .entry))) .store ⌝ }
+    ensures { λ _. ⌜ now (image .exit) ≡ answeredMemory clears answer kind at window n (memoryOf (now (image .entry)) (now (store .entry))) .image ⌝ }
+    ensures { λ _. ⌜ now (store .exit) ≡ answeredMemory clears answer kind at window n (memoryOf (now (image .entry)) (now (store .entry))) .store ⌝ }
 {
     match answer {
         DeviceAnswer::Pending => Outcome::GoesOn,

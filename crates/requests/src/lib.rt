@@ -5,7 +5,7 @@ ghost use mathlib.Core.Path.{_≡_};
 ghost use Prim.Native.Nat.{_+_, _≤_};
 ghost use lib.Dec.{leb};
 ghost use lib.ListN.{length};
-ghost use Rattle.rules.specs.Memory.{verdictOf, memoryAfter};
+ghost use Rattle.rules.specs.Memory.{verdictOf, answeredMemory};
 ghost use Rattle.requests.specs.Effects.{verdict, lentEnd, memoryOf};
 ghost use Rattle.requests.specs.Requests.{takenState, nextOf, finishedWith, takenWith, dueWith};
 use crate::effects::Outcome;
@@ -137,8 +137,8 @@ pub fn take_request(
     ensures { λ r. ⌜ r .job ≡ takenWith (due .length) (next .retries) (verdictOf answer (job .task .kind) (due .start .0) (window + job .processed) (due .length) (memoryOf (now (image .entry)) (now (store .entry)))) (leb limit (polls + 1)) job ⌝ }
     ensures { λ r. ⌜ r .due ≡ dueWith due next (verdictOf answer (job .task .kind) (due .start .0) (window + job .processed) (due .length) (memoryOf (now (image .entry)) (now (store .entry)))) ⌝ }
     ensures { λ r. ⌜ r .state ≡ takenState area polls (verdictOf answer (job .task .kind) (due .start .0) (window + job .processed) (due .length) (memoryOf (now (image .entry)) (now (store .entry)))) (leb limit (polls + 1)) ⌝ }
-    ensures { λ _. ⌜ now (image .exit) ≡ memoryAfter clears answer (job .task .kind) (due .start .0) (window + job .processed) (due .length) (memoryOf (now (image .entry)) (now (store .entry))) .image ⌝ }
-    ensures { λ _. ⌜ now (store .exit) ≡ memoryAfter clears answer (job .task .kind) (due .start .0) (window + job .processed) (due .length) (memoryOf (now (image .entry)) (now (store .entry))) .store ⌝ }
+    ensures { λ _. ⌜ now (image .exit) ≡ answeredMemory clears answer (job .task .kind) (due .start .0) (window + job .processed) (due .length) (memoryOf (now (image .entry)) (now (store .entry))) .image ⌝ }
+    ensures { λ _. ⌜ now (store .exit) ≡ answeredMemory clears answer (job .task .kind) (due .start .0) (window + job .processed) (due .length) (memoryOf (now (image .entry)) (now (store .entry))) .store ⌝ }
 {
     let task = job.task;
     let kind = task.kind;

@@ -1,8 +1,9 @@
 -- document 01, "A round": both halves on the manager's arrays, and the counts when it closes
 use Prim.Native.Nat.{ℕ, _+_, min}
-use mathlib.Core.Bool.{Bool, true, false}
+use mathlib.Core.Bool.{Bool}
 use mathlib.Core.List.{List, []}
 use lib.ListN.{getD}
+use Rattle.arith.specs.Cases.{pick}
 use Rattle.arith.specs.Tables.{table}
 use Rattle.machine.specs.Sound.{jobIn, coreIn}
 use Rattle.memory.specs.declared.DeviceAnswer.{DeviceAnswer}
@@ -32,12 +33,9 @@ counted below w = record { own = w .own; above = w .above; below = stick (w .bel
 counted locked w = record { own = w .own; above = w .above; below = w .below; locked = stick (w .locked) }
 counted none w = w
 
--- "When the round closes, each job pending since before it adds 1 to one count". Tests: pending before the round? pending after
--- its halves?
+-- "When the round closes, each job pending since before it adds 1 to one count": pending before the round, and still after its halves
 abbrev pub closed : Bool → Bool → Wait → Waits → Waits
-closed false t k w = w
-closed true false k w = w
-closed true true k w = counted k w
+closed before still k w = pick before (pick still (counted k w) w) w
 
 -- an area's waits in the manager's array
 abbrev pub waitsIn : List Area → ℕ → Waits

@@ -1,8 +1,2 @@
 pub mod Close
-pub mod Halves
-pub mod AnswerLaws
-pub mod Turns
-pub mod Picks
-pub mod PickLaws
-pub mod CloseLaws
-pub mod NeedLaws
+pub mod laws

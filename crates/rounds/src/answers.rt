@@ -2,13 +2,13 @@
 ghost use mathlib.Core.Bool.{true};
 ghost use mathlib.Core.Path.{_≡_};
 ghost use Prim.Native.Nat.{_≤_};
-ghost use Rattle.machine.specs.Dues.{Due};
+ghost use Rattle.machine.specs.laws.Dues.{Due};
 ghost use Rattle.machine.specs.Sound.{jobIn, coreIn, isSound};
 ghost use Rattle.rules.specs.Admission.{imageFits, storeReaches};
 ghost use Rattle.rules.specs.Machine.{doing};
 ghost use Rattle.rules.specs.Round.{takeAll};
 ghost use Rattle.rounds.specs.Close.{lentTo};
-ghost use Rattle.rounds.specs.Turns.{Lent, turnArea, turnState, turnDue, turnMemory};
+ghost use Rattle.rounds.specs.laws.Turns.{Lent, turnArea, turnState, turnDue, turnMemory};
 ghost use Rattle.requests.specs.Effects.{memoryOf};
 use machine::soundness::runner;
 use memory::DeviceAnswer;
@@ -107,7 +107,7 @@ fn take_answer(
     }
 }
 
-pub fn first_half(
+pub(crate) fn first_half(
     plan: Plan,
     answers: [DeviceAnswer; 4],
     mut areas: [Area; 8],

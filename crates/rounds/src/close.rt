@@ -4,10 +4,10 @@ ghost use mathlib.Core.Path.{_≡_};
 ghost use Prim.Native.Nat.{_<_};
 ghost use Rattle.machine.specs.Sound.{coreIn};
 ghost use Rattle.plan.specs.Questions.{areaOf};
-ghost use Rattle.rules.specs.Machine.{behind, waitOn};
+ghost use Rattle.rules.specs.Machine.{waitBehind, waitOn};
 ghost use Rattle.rounds.specs.Close.{stick, counted, areasAfter};
-ghost use Rattle.rounds.specs.CloseLaws.{waitIs, rankLayout, closedArea};
-ghost use Rattle.rounds.specs.Picks.{needsLayout};
+ghost use Rattle.rounds.specs.laws.CloseLaws.{waitIs, rankLayout, closedArea};
+ghost use Rattle.rounds.specs.laws.Picks.{needsLayout};
 use jobs::is_pending;
 use jobs::ranks::age_of;
 use jobs::ranks::ranks_above;
@@ -80,7 +80,7 @@ fn priority_of(records: [AreaRecord; 8], area: usize) -> u16
 
 // An area behind a request of another, or its own.
 fn wait_behind(records: [AreaRecord; 8], ages: [u8; 8], area: u8, runner: u8) -> Wait
-    ensures { λ r. ⌜ waitIs r ≡ behind (rankLayout records ages) area runner ⌝ }
+    ensures { λ r. ⌜ waitIs r ≡ waitBehind (rankLayout records ages) area runner ⌝ }
 {
     if runner == area {
         return Wait::Own;
@@ -134,7 +134,7 @@ fn closed_area(
 }
 
 // All areas when the round closes: `before` are those before it, `after` those after both halves.
-pub fn close(
+pub(crate) fn close(
     records: [AreaRecord; 8],
     ages: [u8; 8],
     needs: [u8; 8],

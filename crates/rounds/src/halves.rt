@@ -1,7 +1,7 @@
 // A whole round on what moves in a manager.
 ghost use mathlib.Core.Bool.{true};
 ghost use mathlib.Core.Path.{_≡_};
-ghost use Rattle.machine.specs.Dues.{Due};
+ghost use Rattle.machine.specs.laws.Dues.{Due};
 ghost use Rattle.machine.specs.Sound.{jobIn, isSound};
 ghost use Rattle.rules.specs.Admission.{imageFits, storeReaches};
 ghost use Rattle.rules.specs.Layout.{layoutAt};

@@ -6,7 +6,7 @@ ghost use lib.Dec.{eqb};
 ghost use Rattle.arith.specs.Cases.{pick};
 ghost use Rattle.machine.specs.Sound.{coreIn};
 ghost use Rattle.rules.specs.Machine.{isPending, displaces, secondHalf};
-ghost use Rattle.rounds.specs.Picks.{needsOf, betterOf, bestTo, readyIn, freeSlot, runningSlot, slotOf, isTaken, chosenIn, startOf, startFree, eraseWith, startWith, needsLayout};
+ghost use Rattle.rounds.specs.laws.Picks.{needsOf, betterOf, bestTo, readyIn, freeSlot, runningSlot, slotOf, isTaken, chosenIn, startOf, startFree, eraseWith, startWith, needsLayout};
 ghost use Rattle.rounds.specs.declared.picks.Best.the-variants.{Nobody};
 use crate::answers::Arrays;
 use jobs::ended;
@@ -27,7 +27,7 @@ use state::Job;
 use state::Suspended;
 
 // The devices that the pending jobs need: those of their due segments.
-pub fn needed_devices(dues: [Segment; 8]) -> [u8; 8]
+pub(crate) fn needed_devices(dues: [Segment; 8]) -> [u8; 8]
     ensures { λ r. ⌜ r ≡ needsOf dues ⌝ }
 {
     let mut needs = [0u8; 8];
@@ -328,7 +328,7 @@ fn start_choice(slot: Slot, best: Best, entry: Area, device: Device) -> Start
 }
 
 // The first devices pick, in their order. Left open are the waits, which the close takes from before the round.
-pub fn second_half(
+pub(crate) fn second_half(
     records: [AreaRecord; 8],
     ages: [u8; 8],
     count: usize,

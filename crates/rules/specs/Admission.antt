@@ -1,10 +1,11 @@
 -- document 01, "Questions at the door": questions 10 to 19
-use Prim.Native.Nat.{ℕ, _+_, _-_}
+use Prim.Native.Nat.{ℕ, zero, suc, _+_, _-_}
 use mathlib.Core.Bool.{Bool, true, false, not, _&&_}
 use mathlib.Core.List.{List, [], _∷_}
 use lib.Dec.{ltb, leb, eqb}
 use lib.ListN.{length}
 use Rattle.arith.specs.Bounded.{every}
+use Rattle.arith.specs.Cases.{pick}
 use Rattle.arith.specs.FirstNo.{firstNo}
 use Rattle.arith.specs.Multiples.{multiple}
 use Rattle.memory.specs.declared.JobType.{JobType}
@@ -40,12 +41,12 @@ isInside p a address n =
 -- 13. "Is the offset in the first sub-area, and the end in the last, a multiple of the unit there?"
 abbrev pub startsOnUnit : JobType → List SubAreaRecord → Found → Bool
 startsOnUnit k l Outside = false
-startsOnUnit k l (At i y) = multiple (unitOf k (subAreaOf l i)) y
+startsOnUnit k l (At i y m) = multiple (unitOf k (subAreaOf l i)) y
 
 -- the end is one past the last byte, which the place is of
 abbrev pub endsOnUnit : JobType → List SubAreaRecord → Found → Bool
 endsOnUnit k l Outside = false
-endsOnUnit k l (At i y) = multiple (unitOf k (subAreaOf l i)) (y + 1)
+endsOnUnit k l (At i y m) = multiple (unitOf k (subAreaOf l i)) (y + 1)
 
 unfoldable pub isAligned : Plan → ℕ → Task → Bool
 isAligned p a t =
@@ -84,8 +85,12 @@ holdsLock a (LockedFor b) = eqb a b
 
 -- A question that is not asked of a call is answered "yes".
 abbrev pub ifAsked : Bool → Bool → Bool
-ifAsked true answer = answer
-ifAsked false answer = true
+ifAsked asked answer = pick asked answer true
+
+-- n questions that are not asked of a call, before those that are
+abbrev pub skip : ℕ → List Bool → List Bool
+skip zero questions = questions
+skip (suc n) questions = true ∷ skip n questions
 
 -- five jobs and lock: 12 to 15, which are of the plan alone, and 10 to 15
 abbrev pub rangeQuestions : Plan → ℕ → Task → List Bool
@@ -103,24 +108,23 @@ jobQuestions p c a t = isKnown p a ∷ isIdle c a ∷ rangeQuestions p a t
 unfoldable pub releaseQuestions : Plan → Core → ℕ → LogicalAddress → ℕ → List Bool
 releaseQuestions p c a address n =
     isKnown p a
-    ∷ true
-    ∷ isInside p a address n
-    ∷ true
-    ∷ true
-    ∷ onOneDevice p a address n
+    ∷ skip 1
+    (isInside p a address n
+    ∷ skip 2
+    (onOneDevice p a address n
     ∷ holdsLock a (c .devices (rangeDevice p a address n) .state)
-    ∷ []
+    ∷ []))
 
 -- cancel: 10, 17 "Is a job pending?"
 unfoldable pub cancelQuestions : Plan → Core → ℕ → List Bool
-cancelQuestions p c a = isKnown p a ∷ true ∷ true ∷ true ∷ true ∷ true ∷ true ∷ isPending (c .jobs a) ∷ []
+cancelQuestions p c a = isKnown p a ∷ skip 6 (isPending (c .jobs a) ∷ [])
 
 -- status, result, processed length, job info: 10; memory info: 10, and 12 "with length 1"
 unfoldable pub infoQuestions : Plan → ℕ → List Bool
 infoQuestions p a = isKnown p a ∷ []
 
 unfoldable pub memoryInfoQuestions : Plan → ℕ → LogicalAddress → List Bool
-memoryInfoQuestions p a address = isKnown p a ∷ true ∷ isInside p a address 1 ∷ []
+memoryInfoQuestions p a address = isKnown p a ∷ skip 1 (isInside p a address 1 ∷ [])
 
 -- 18. "Is the image's length exactly the sum of the device lengths?" 19. "Does the store reach the furthest window end?"
 unfoldable pub imageFits : Plan → List ℕ → Bool

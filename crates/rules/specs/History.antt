@@ -57,8 +57,8 @@ pub record History : Type 0 where
 
 -- "At the start nothing runs, is locked or pending, and the numbers are 0." No two areas have one age; which is the older does not
 -- matter, as none is pending.
-unfoldable pub start : History
-start =
+unfoldable pub freshHistory : History
+freshHistory =
     record {
       core = record { jobs = λ a. noJob; devices = λ d. freeDevice };
       ages = λ a. a;
@@ -75,19 +75,21 @@ count locked w = record { rounds = w .rounds + 1; own = w .own; above = w .above
 count none w = record { rounds = w .rounds + 1; own = w .own; above = w .above; below = w .below; locked = w .locked; byRound = w .byRound }
 
 -- "An accepted round adds 1 to the rounds of every pending job, then does its two halves. A job that they end was ended by a
--- round. Each job still pending adds 1 to" one count. Tests: pending before the round? pending after its halves?
+-- round. Each job still pending adds 1 to" one count.
 abbrev pub close : Bool → Bool → Wait → Tally → Tally
-close false t k w = w
-close true false k w = record { rounds = w .rounds + 1; own = w .own; above = w .above; below = w .below; locked = w .locked; byRound = true }
-close true true k w = count k w
+close before still k w =
+    pick before
+    (pick still (count k w)
+    (record { rounds = w .rounds + 1; own = w .own; above = w .above; below = w .below; locked = w .locked; byRound = true }))
+    w
 
 -- a history with the memory that is lent to a round
 abbrev pub lent : Memory → History → Half
-lent m h = record { core = h .core; memory = m; done = h .done }
+lent mem h = record { core = h .core; memory = mem; done = h .done }
 
 unfoldable pub roundOf : Plan → List DeviceAnswer → Memory → History → History
-roundOf p answers m h =
-    let after = roundHalves p (h .ages) answers (lent m h) in
+roundOf p answers mem h =
+    let after = roundHalves p (h .ages) answers (lent mem h) in
     record {
       core = after .core;
       ages = h .ages;
@@ -115,7 +117,7 @@ step p (releases a address n) h =
     pick (eqb (releaseNumber p (h .core) a address n) 0) (withCore (release (rangeDevice p a address n) (h .core)) h) h
 step p (cancels a) h = pick (eqb (cancelNumber p (h .core) a) 0) (withCore (cancel (layoutOf p) a (h .core)) h) h
 step p (asks q) h = h
-step p (round answers m) h = pick (eqb (roundNumber p (m .image) (m .store)) 0) (roundOf p answers m h) h
+step p (round answers mem) h = pick (eqb (roundNumber p (mem .image) (mem .store)) 0) (roundOf p answers mem h) h
 
 -- "Demand 3 is a single claim about the whole list of calls"
 unfoldable pub run : Plan → List Call → History → History

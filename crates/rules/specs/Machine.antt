@@ -27,17 +27,17 @@ pub record Core : Type 0 where
 abbrev pub doing : DeviceState → Device → Device
 doing x y = record { state = x; suspended = y .suspended }
 
-abbrev pub withDevice : ℕ → DeviceState → Core → Core
-withDevice d x c = record { jobs = c .jobs; devices = upd (c .devices) d (doing x (c .devices d)) }
+abbrev pub setState : ℕ → DeviceState → Core → Core
+setState d x c = record { jobs = c .jobs; devices = upd (c .devices) d (doing x (c .devices d)) }
 
-abbrev pub withJob : ℕ → Job → Core → Core
-withJob a j c = record { jobs = upd (c .jobs) a j; devices = c .devices }
+abbrev pub setJob : ℕ → Job → Core → Core
+setJob a j c = record { jobs = upd (c .jobs) a j; devices = c .devices }
 
-abbrev pub withBoth : ℕ → Job → ℕ → DeviceState → Core → Core
-withBoth a j d x c = record { jobs = upd (c .jobs) a j; devices = upd (c .devices) d (doing x (c .devices d)) }
+abbrev pub setBoth : ℕ → Job → ℕ → DeviceState → Core → Core
+setBoth a j d x c = record { jobs = upd (c .jobs) a j; devices = upd (c .devices) d (doing x (c .devices d)) }
 
-abbrev pub withStates : ℕ → DeviceState → Suspended → Core → Core
-withStates d x s c = record { jobs = c .jobs; devices = upd (c .devices) d (record { state = x; suspended = s }) }
+abbrev pub setDevice : ℕ → DeviceState → Suspended → Core → Core
+setDevice d x s c = record { jobs = c .jobs; devices = upd (c .devices) d (record { state = x; suspended = s }) }
 
 -- a cancelled job whose request still runs is pending: "the area stays pending"
 abbrev pub isPendingStatus : JobStatus → Bool
@@ -86,43 +86,38 @@ pub data Verdict : Type 0 where
   failed : Verdict
 
 -- "with a retry left the same piece is due again, otherwise the job ends with 1"; cancelled, "the job ends with result 3 and
--- is not retried". Tests: cancelled? no retry left?
+-- is not retried"
 abbrev pub afterFailed : Bool → Bool → Job → Job
-afterFailed true t j = ended 3 j
-afterFailed false true j = ended 1 j
-afterFailed false false j = moved (j .processed) (j .«retries_left» - 1) j
+afterFailed cancelled noRetry j = pick cancelled (ended 3 j) (pick noRetry (ended 1 j) (moved (j .processed) (j .«retries_left» - 1) j))
 
 unfoldable pub jobFailed : Job → Job
 jobFailed j = afterFailed (isCancelling (j .status)) (eqb (j .«retries_left») 0) j
 
 -- "Every other done adds the piece to the processed length; after the last piece the job ends with 0."
--- Tests: cancelled? nothing left? x is the new processed length, r the retries of the next segment
+-- x is the new processed length, r the retries of the next segment
 abbrev pub afterFinished : Bool → Bool → ℕ → ℕ → Job → Job
-afterFinished true t x r j = ended 3 (moved x (j .«retries_left») j)
-afterFinished false true x r j = ended 0 (moved x (j .«retries_left») j)
-afterFinished false false x r j = moved x r j
+afterFinished cancelled last x r j =
+    pick cancelled (ended 3 (moved x (j .«retries_left») j)) (pick last (ended 0 (moved x (j .«retries_left») j)) (moved x r j))
 
 unfoldable pub jobFinished : Layout → ℕ → Job → Job
 jobFinished p a j =
     let x = j .processed + due p a j .length in
     afterFinished (isCancelling (j .status)) (leb (j .task .length) x) x (p .segment a (j .task) x .retries) j
 
--- "a differing byte, or one that is not 255, ends the job with result 2". Test: cancelled?
+-- "a differing byte, or one that is not 255, ends the job with result 2"
 abbrev pub afterDiffers : Bool → Job → Job
-afterDiffers true j = ended 3 j
-afterDiffers false j = ended 2 j
+afterDiffers cancelled j = pick cancelled (ended 3 j) (ended 2 j)
 
 unfoldable pub jobDiffers : Job → Job
 jobDiffers j = afterDiffers (isCancelling (j .status)) j
 
 -- "First every device with a running request takes its answer. Pending adds 1 to the request's polls; when polls reach the
--- patience it counts as failed after 0 bytes". Tests: the verdict; are polls below the limit?
+-- patience it counts as failed after 0 bytes"
 abbrev pub takeRunning : Layout → ℕ → ℕ → ℕ → Verdict → Bool → Core → Core
-takeRunning p d a polls goesOn true c = withDevice d (Runs a (polls + 1)) c
-takeRunning p d a polls goesOn false c = withBoth a (jobFailed (c .jobs a)) d Free c
-takeRunning p d a polls finished t c = withBoth a (jobFinished p a (c .jobs a)) d Free c
-takeRunning p d a polls differs t c = withBoth a (jobDiffers (c .jobs a)) d Free c
-takeRunning p d a polls failed t c = withBoth a (jobFailed (c .jobs a)) d Free c
+takeRunning p d a polls goesOn belowLimit c = pick belowLimit (setState d (Runs a (polls + 1)) c) (setBoth a (jobFailed (c .jobs a)) d Free c)
+takeRunning p d a polls finished belowLimit c = setBoth a (jobFinished p a (c .jobs a)) d Free c
+takeRunning p d a polls differs belowLimit c = setBoth a (jobDiffers (c .jobs a)) d Free c
+takeRunning p d a polls failed belowLimit c = setBoth a (jobFailed (c .jobs a)) d Free c
 
 -- "The answer for a device with nothing running is ignored."
 abbrev pub takeOn : Layout → ℕ → Verdict → DeviceState → Core → Core
@@ -158,8 +153,7 @@ best p c d (suc a) = pick (ready p c d a) (better p a (best p c d a)) (best p c 
 
 -- "A piece becomes the running request with 0 polls. A lock request locks the device for that area and ends with 0."
 abbrev pub startJob : ℕ → ℕ → Bool → Core → Core
-startJob d a true c = withBoth a (ended 0 (c .jobs a)) d (LockedFor a) c
-startJob d a false c = withDevice d (Runs a 0) c
+startJob d a lock c = pick lock (setBoth a (ended 0 (c .jobs a)) d (LockedFor a) c) (setState d (Runs a 0) c)
 
 abbrev pub startChoice : ℕ → Choice → Core → Core
 startChoice d nobody c = c
@@ -171,19 +165,17 @@ displaces k = not (isErase k) && not (isLock k)
 
 -- Area b's erase, with its polls, runs or is suspended on device d; the choice is the highest ranked of all jobs there, the erase's
 -- own among them. "the erase is parked with its polls kept and that piece starts"; else it goes on, or "resumes". A choice that
--- displaces is not b's, so it outranks b. Test: does the choice displace an erase?
+-- displaces is not b's, so it outranks b.
 abbrev pub eraseOr : ℕ → ℕ → ℕ → ℕ → Bool → Core → Core
-eraseOr d b polls a true c = withStates d (Runs a 0) (Kept.Erase b polls) c
-eraseOr d b polls a false c = withStates d (Runs b polls) Kept.Nothing c
+eraseOr d b polls a displacing c = pick displacing (setDevice d (Runs a 0) (Kept.Erase b polls) c) (setDevice d (Runs b polls) Kept.Nothing c)
 
 abbrev pub eraseOrChoice : ℕ → ℕ → ℕ → Choice → Core → Core
-eraseOrChoice d b polls nobody c = withStates d (Runs b polls) Kept.Nothing c
+eraseOrChoice d b polls nobody c = setDevice d (Runs b polls) Kept.Nothing c
 eraseOrChoice d b polls (area a) c = eraseOr d b polls a (displaces (c .jobs a .task .kind)) c
 
--- a request runs and nothing is suspended. Test: is it an erase on a device that can suspend it?
+-- a request runs and nothing is suspended: an erase, on a device that can suspend it, or not
 abbrev pub startOver : Layout → ℕ → ℕ → ℕ → Bool → Core → Core
-startOver p d b polls true c = eraseOrChoice d b polls (best p c d (p .areas)) c
-startOver p d b polls false c = c
+startOver p d b polls suspendable c = pick suspendable (eraseOrChoice d b polls (best p c d (p .areas)) c) c
 
 -- "A locked device starts nothing, also for the holder." "One erase is parked per chip, no lock is given meanwhile"
 abbrev pub startOn : Layout → ℕ → DeviceState → Suspended → Core → Core
@@ -193,13 +185,13 @@ startOn p d (LockedFor a) s c = c
 startOn p d (Runs b polls) Kept.Nothing c = startOver p d b polls (p .suspends d && isErase (c .jobs b .task .kind)) c
 startOn p d (Runs b polls) (Kept.Erase a kept) c = c
 
-unfoldable pub start : Layout → ℕ → Core → Core
-start p d c = startOn p d (c .devices d .state) (c .devices d .suspended) c
+unfoldable pub startDevice : Layout → ℕ → Core → Core
+startDevice p d c = startOn p d (c .devices d .state) (c .devices d .suspended) c
 
 -- the second half: the devices below n have picked
 unfoldable pub secondHalf : Layout → ℕ → Core → Core
 secondHalf p zero c = c
-secondHalf p (suc n) c = start p n (secondHalf p n c)
+secondHalf p (suc n) c = startDevice p n (secondHalf p n c)
 
 -- "own (its request runs), above or below (another's request runs on the device it needs, by rank), or locked"
 pub data Wait : Type 0 where
@@ -209,13 +201,13 @@ pub data Wait : Type 0 where
   locked : Wait
   none : Wait
 
-unfoldable pub behind : Layout → ℕ → ℕ → Wait
-behind p a b = pick (eqb b a) own (pick (p .outranks b a) above below)
+unfoldable pub waitBehind : Layout → ℕ → ℕ → Wait
+waitBehind p a b = pick (eqb b a) own (pick (p .outranks b a) above below)
 
 abbrev pub waitOn : Layout → ℕ → DeviceState → Wait
 waitOn p a Free = none
 waitOn p a (LockedFor b) = locked
-waitOn p a (Runs b polls) = behind p a b
+waitOn p a (Runs b polls) = waitBehind p a b
 
 -- which wait area a's pending job has
 abbrev pub waitOf : Layout → Core → ℕ → Wait
@@ -235,17 +227,16 @@ abbrev pub holds : ℕ → Device → Bool
 holds a x = runsFor a (x .state) || keptFor a (x .suspended)
 
 -- "A cancel ends a job without a running request immediately, result 3. With one running, the area stays pending".
--- "a cancelled parked erase ends when its resumed request ends". Test: does its request run, or is it suspended?
+-- "a cancelled parked erase ends when its resumed request ends": held is a request that runs or is suspended.
 abbrev pub cancelIf : Bool → ℕ → Core → Core
-cancelIf true a c = withJob a (cancelled (c .jobs a)) c
-cancelIf false a c = withJob a (ended 3 (c .jobs a)) c
+cancelIf held a c = pick held (setJob a (cancelled (c .jobs a)) c) (setJob a (ended 3 (c .jobs a)) c)
 
 unfoldable pub cancel : Layout → ℕ → Core → Core
 cancel p a c = cancelIf (holds a (c .devices (need p a (c .jobs a)))) a c
 
 unfoldable pub begin : Layout → ℕ → Task → Core → Core
-begin p a t c = withJob a (begun p a t (c .jobs a)) c
+begin p a t c = setJob a (begun p a t (c .jobs a)) c
 
 -- "Release clears the lock."
 unfoldable pub release : ℕ → Core → Core
-release d c = withDevice d Free c
+release d c = setState d Free c

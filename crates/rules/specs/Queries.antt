@@ -68,7 +68,7 @@ noMemoryInfo =
 
 abbrev pub memoryInfoAt : Plan → LogicalAddress → Found → MemoryInfo
 memoryInfoAt p address Outside = noMemoryInfo
-memoryInfoAt p address (At i y) = memoryInfoIn address (subAreaOf (p .«sub_areas») i) y
+memoryInfoAt p address (At i y m) = memoryInfoIn address (subAreaOf (p .«sub_areas») i) y
 
 unfoldable pub memoryInfoOf : Plan → ℕ → LogicalAddress → MemoryInfo
 memoryInfoOf p a address = memoryInfoAt p address (mapped p a address)

@@ -14,11 +14,11 @@ use Rattle.state.specs.declared.DeviceState.the-variants.{Free, Runs, LockedFor
 use Rattle.state.specs.declared.Job.{Job}
 use Rattle.rules.specs.Layout.{layoutOf, layoutAt}
 use Rattle.rules.specs.Machine.{Core, Verdict, goesOn, finished, differs, failed, due, takeAnswer, secondHalf}
-use Rattle.rules.specs.Memory.{Memory, verdictOf, memoryAfter}
+use Rattle.rules.specs.Memory.{Memory, verdictOf, answeredMemory}
 
 -- "A round takes the four answers of its devices, one each"
-abbrev pub answerOf : List DeviceAnswer → ℕ → DeviceAnswer
-answerOf l d = getD l d Answers.Pending
+abbrev pub answerFor : List DeviceAnswer → ℕ → DeviceAnswer
+answerFor l d = getD l d Answers.Pending
 
 -- "Window bytes are those of this moment, at the processed length from the window's start"
 abbrev pub windowPlace : Plan → ℕ → Job → ℕ
@@ -35,18 +35,18 @@ pub record Half : Type 0 where
   pub done : ℕ → List Segment
 
 abbrev pub verdictOn : Plan → DeviceState → DeviceAnswer → (ℕ → Job) → Memory → Verdict
-verdictOn p Free x jobs m = goesOn
-verdictOn p (LockedFor a) x jobs m = goesOn
-verdictOn p (Runs a polls) x jobs m =
+verdictOn p Free x jobs mem = goesOn
+verdictOn p (LockedFor a) x jobs mem = goesOn
+verdictOn p (Runs a polls) x jobs mem =
     let s = due (layoutOf p) a (jobs a) in
-    verdictOf x (jobs a .task .kind) (s .start .0) (windowPlace p a (jobs a)) (s .length) m
+    verdictOf x (jobs a .task .kind) (s .start .0) (windowPlace p a (jobs a)) (s .length) mem
 
 abbrev pub memoryOn : Plan → ℕ → DeviceState → DeviceAnswer → (ℕ → Job) → Memory → Memory
-memoryOn p d Free x jobs m = m
-memoryOn p d (LockedFor a) x jobs m = m
-memoryOn p d (Runs a polls) x jobs m =
+memoryOn p d Free x jobs mem = mem
+memoryOn p d (LockedFor a) x jobs mem = mem
+memoryOn p d (Runs a polls) x jobs mem =
     let s = due (layoutOf p) a (jobs a) in
-    memoryAfter (clearsOnly p d) x (jobs a .task .kind) (s .start .0) (windowPlace p a (jobs a)) (s .length) m
+    answeredMemory (clearsOnly p d) x (jobs a .task .kind) (s .start .0) (windowPlace p a (jobs a)) (s .length) mem
 
 abbrev pub addDone : Verdict → ℕ → Segment → (ℕ → List Segment) → ℕ → List Segment
 addDone finished a s done = upd done a (done a ++ (s ∷ []))
@@ -73,7 +73,7 @@ takeIn p d x h =
 -- the devices below n have taken their answers
 unfoldable pub takeAll : Plan → List DeviceAnswer → ℕ → Half → Half
 takeAll p answers zero h = h
-takeAll p answers (suc n) h = takeIn p n (answerOf answers n) (takeAll p answers n h)
+takeAll p answers (suc n) h = takeIn p n (answerFor answers n) (takeAll p answers n h)
 
 -- both halves, when the areas have these ages
 unfoldable pub roundHalves : Plan → (ℕ → ℕ) → List DeviceAnswer → Half → Half

@@ -10,11 +10,11 @@ use Rattle.state.specs.declared.DeviceState.{DeviceState}
 use Rattle.state.specs.declared.DeviceState.the-variants.{Free, Runs, LockedFor}
 use Rattle.state.specs.declared.Job.{Job}
 use Rattle.rules.specs.Admission.{jobNumber, releaseNumber, cancelNumber, infoNumber, memoryInfoNumber, roundNumber}
-use Rattle.rules.specs.History.{Query, status, result, processed, jobInfo, memoryInfo, Call, submit, releases, cancels, asks, round, Tally, History, lent, step}
+use Rattle.rules.specs.Answers.{callMemory}
+use Rattle.rules.specs.History.{Query, status, result, processed, jobInfo, memoryInfo, Call, submit, releases, cancels, asks, round, Tally, History, step}
 use Rattle.rules.specs.Layout.{layoutOf}
 use Rattle.rules.specs.Machine.{Core, due}
 use Rattle.rules.specs.Memory.{Memory}
-use Rattle.rules.specs.Round.{roundHalves}
 
 -- "per device '-', 'L', or area:type:physical:length of what runs"
 pub data Shown : Type 0 where
@@ -43,11 +43,12 @@ shownTo p c (suc n) = shownTo p c n ++ (shownOn p (c .jobs) (c .devices n .state
 abbrev pub infoEntry : Job → Tally → Entry
 infoEntry j w = info (j .result .0) (j .processed) (w .own) (w .above) (w .below) (w .locked)
 
-abbrev pub ifAccepted : ℕ → Entry → Entry
-ifAccepted n e = pick (eqb n 0) e (number n)
+-- the entry of an accepted call, or its number
+abbrev pub entryOr : ℕ → Entry → Entry
+entryOr n e = pick (eqb n 0) e (number n)
 
 abbrev pub entryOfQuery : Plan → Query → History → Entry
-entryOfQuery p (jobInfo a) h = ifAccepted (infoNumber p a) (infoEntry (h .core .jobs a) (h .tallies a))
+entryOfQuery p (jobInfo a) h = entryOr (infoNumber p a) (infoEntry (h .core .jobs a) (h .tallies a))
 entryOfQuery p (status a) h = number (infoNumber p a)
 entryOfQuery p (result a) h = number (infoNumber p a)
 entryOfQuery p (processed a) h = number (infoNumber p a)
@@ -59,17 +60,8 @@ entryOf p (submit a t) h = number (jobNumber p (h .core) a t)
 entryOf p (releases a address n) h = number (releaseNumber p (h .core) a address n)
 entryOf p (cancels a) h = number (cancelNumber p (h .core) a)
 entryOf p (asks q) h = entryOfQuery p q h
-entryOf p (round answers m) h =
-    ifAccepted (roundNumber p (m .image) (m .store)) (devices (shownTo p (step p (round answers m) h .core) (p .«device_count»)))
-
--- the lent memory after a call
-abbrev pub memoryOf : Plan → Call → History → Memory → Memory
-memoryOf p (submit a t) h m = m
-memoryOf p (releases a address n) h m = m
-memoryOf p (cancels a) h m = m
-memoryOf p (asks q) h m = m
-memoryOf p (round answers n) h m =
-    pick (eqb (roundNumber p (n .image) (n .store)) 0) (roundHalves p (h .ages) answers (lent n h) .memory) m
+entryOf p (round answers mem) h =
+    entryOr (roundNumber p (mem .image) (mem .store)) (devices (shownTo p (step p (round answers mem) h .core) (p .«device_count»)))
 
 -- a line of the bench is a call, to which a round's memory is lent
 pub data Line : Type 0 where
@@ -77,8 +69,8 @@ pub data Line : Type 0 where
   answers : List DeviceAnswer → Line
 
 abbrev pub callOf : Line → Memory → Call
-callOf (call c) m = c
-callOf (answers l) m = round l m
+callOf (call c) mem = c
+callOf (answers l) mem = round l mem
 
 pub record Bench : Type 0 where
   pub history : History
@@ -90,7 +82,7 @@ playLine p line b =
     let c = callOf line (b .memory) in
     record {
       history = step p c (b .history);
-      memory = memoryOf p c (b .history) (b .memory);
+      memory = callMemory p c (b .history) (b .memory);
       printed = b .printed ++ (entryOf p c (b .history) ∷ []);
     }
 

@@ -2,9 +2,7 @@
 use Prim.Native.Nat.{ℕ, _+_}
 use mathlib.Core.List.{List, [], _∷_, _++_}
 use Rattle.memory.specs.declared.Task.{Task}
-use Rattle.plan.specs.Questions.{subAreaOf}
 use Rattle.plan.specs.declared.records.Plan.{Plan}
-use Rattle.plan.specs.declared.records.SubAreaRecord.{SubAreaRecord}
 use Rattle.arith.specs.Listed.{listed}
 use Rattle.segment.specs.Mapping.{mapped}
 use Rattle.segment.specs.declared.Found.{Found}
@@ -21,13 +19,13 @@ joined [] = []
 joined (s ∷ l) = bytesOf s ++ joined l
 
 -- the physical address of a place that the lookup found
-abbrev pub physical : List SubAreaRecord → Found → ℕ
-physical l Outside = 0
-physical l (At i y) = subAreaOf l i .start + y
+abbrev pub physical : Found → ℕ
+physical Outside = 0
+physical (At i y m) = m .0
 
 -- "only the mapping turns the first into the second": the physical address of byte x of area a's job
 unfoldable pub mappedByte : Plan → ℕ → Task → ℕ → ℕ
-mappedByte p a t x = physical (p .«sub_areas») (mapped p a (record { 0 = t .address .0 + x }))
+mappedByte p a t x = physical (mapped p a (record { 0 = t .address .0 + x }))
 
 -- those of the job's bytes x, x + 1, .., x + n - 1
 unfoldable pub mappedBytes : Plan → ℕ → Task → ℕ → ℕ → List ℕ

@@ -1,14 +1,5 @@
 pub mod Mapping
-pub mod Lookup
 pub mod Segments
 pub mod Bytes
-pub mod Borders
-pub mod MappingLaws
-pub mod LengthLaws
-pub mod CutLaws
-pub mod SegmentLaws
-pub mod BytesLaws
-pub mod SpanLaws
-pub mod LookupLaws
-pub mod Found
-pub mod Walks
+pub mod runs
+pub mod laws

@@ -11,12 +11,12 @@ use Rattle.segment.specs.declared.Found.{Found}
 use Rattle.segment.specs.declared.Found.the-variants.{Outside, At}
 
 -- "To find a byte, the lookup walks the sub-area records as a lent list in plan order."
--- From record i on, of which k are left: the byte at offset x of area a
+-- From record i on, of which k are left: the byte at offset x of area a. A record found, an offset in it, and the physical address
 unfoldable pub find : ℕ → List SubAreaRecord → ℕ → ℕ → ℕ → Found
 find zero l i a x = Outside
 find (suc k) l i a x =
     pick (isOf a (subAreaOf l i))
-    (pick (ltb x (sizeOf (subAreaOf l i))) (At i x) (find k l (i + 1) a (x - sizeOf (subAreaOf l i))))
+    (pick (ltb x (sizeOf (subAreaOf l i))) (At i x (record { 0 = subAreaOf l i .start + x })) (find k l (i + 1) a (x - sizeOf (subAreaOf l i))))
     (find k l (i + 1) a x)
 
 -- the byte at logical address x of area a, which starts at `start`, by the first n records

@@ -85,7 +85,7 @@ noSegment = record { device = 0; start = record { 0 = 0 }; length = 0; retries =
 
 abbrev pub segmentOf : JobType → List SubAreaRecord → ℕ → Found → Segment
 segmentOf k l r Outside = noSegment
-segmentOf k l r (At i y) = segmentIn k (subAreaOf l i) y r
+segmentOf k l r (At i y m) = segmentIn k (subAreaOf l i) y r
 
 -- the segment of area a's job that is due once x bytes are processed
 unfoldable pub segmentAt : Plan → ℕ → Task → ℕ → Segment

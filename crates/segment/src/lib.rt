@@ -4,9 +4,9 @@ ghost use Prim.Native.Nat.{_+_, _-_, _≤_, _<_, min};
 ghost use lib.ListN.{length};
 ghost use Rattle.plan.specs.Questions.{sizeOf};
 ghost use Rattle.segment.specs.Mapping.{find, located, mapped};
-ghost use Rattle.segment.specs.Lookup.{met, outcomeOf};
+ghost use Rattle.segment.specs.laws.Lookup.{met, outcomeOf};
 ghost use Rattle.segment.specs.Segments.{isLock, isErase, unitOf, retriesOf, burstOrUnit, segmentLength, segmentIn, noSegment, segmentAt};
-ghost use Rattle.segment.specs.Found.{indexOf, Inside, segmentIf, segmentFrom};
+ghost use Rattle.segment.specs.laws.Found.{indexOf, Inside, segmentIf, segmentFrom};
 use memory::JobType;
 use memory::LogicalAddress;
 use memory::MemAddress;
@@ -16,17 +16,23 @@ use plan::records::Granularity;
 use plan::records::Plan;
 use plan::records::SubAreaRecord;
 
-// What the lookup finds: a sub-area record and the offset in it, or no sub-area of the area has the byte.
+// What the lookup finds: a sub-area record, the offset in it and the byte's physical address, or no sub-area of the area has the byte.
 pub enum Found {
     Outside,
-    At { sub_area: usize, offset: u64 },
+    At {
+        sub_area: usize,
+        offset: u64,
+        address: MemAddress,
+    },
 }
 
-// The lookup on its way: the byte is found, at offset `left` of a record, or is still `left` bytes of the area away.
+// The lookup on its way: the byte is found, at offset `left` of a record and so at physical address `at`, or is still `left` bytes
+// of the area away.
 struct Seek {
     found: bool,
     sub_area: usize,
     left: u64,
+    at: u64,
 }
 
 // A part of a job for one driver request: in one sub-area, with the retries that it may take.
@@ -50,16 +56,19 @@ impl Seek {
         }
         let size = sub_area.size();
         if self.left < size {
+            let at = (sub_area.start as u64) + self.left;
             return Seek {
                 found: true,
                 sub_area: i,
                 left: self.left,
+                at,
             };
         }
         Seek {
             found: false,
             sub_area: 0,
             left: self.left - size,
+            at: 0,
         }
     }
 
@@ -70,6 +79,7 @@ impl Seek {
             return Found::At {
                 sub_area: self.sub_area,
                 offset: self.left,
+                address: MemAddress(self.at),
             };
         }
         Found::Outside
@@ -78,13 +88,14 @@ impl Seek {
 
 // Document 01: "the lookup walks the sub-area records as a lent list in plan order." It goes on to the last record, so that
 // its loop has one way out: a walk over a lent list of structs is proved by hand.
-pub fn lookup(sub_areas: &[SubAreaRecord], area: usize, offset: u64) -> Found
+fn lookup(sub_areas: &[SubAreaRecord], area: usize, offset: u64) -> Found
     ensures { λ r. ⌜ r ≡ find (length (now («sub_areas» .entry))) (now («sub_areas» .entry)) 0 area offset ⌝ }
 {
     let mut seek = Seek {
         found: false,
         sub_area: 0,
         left: offset,
+        at: 0,
     };
     let mut i: usize = 0;
     while i < sub_areas.len() {
@@ -102,33 +113,35 @@ fn find_byte(sub_areas: [SubAreaRecord; 32], count: usize, area: usize, offset: 
     lookup(&sub_areas[..count], area, offset)
 }
 
-// The mapping in an area that starts there: where the byte at a logical address lies. The address may lie behind those that a
-// call can name.
+// The mapping in an area that starts there: where the byte lies that is so many bytes behind the one at a logical address. It may lie
+// behind those that an address can name.
 pub fn locate(
     sub_areas: [SubAreaRecord; 32],
     count: usize,
     start: LogicalAddress,
     area: usize,
-    address: u64,
+    address: LogicalAddress,
+    behind: u32,
 ) -> Found
     requires { ⌜ count ≤ 32 ⌝ }
-    ensures { λ r. ⌜ r ≡ located «sub_areas» count (start .0) area address ⌝ }
+    ensures { λ r. ⌜ r ≡ located «sub_areas» count (start .0) area (address .0 + behind) ⌝ }
 {
-    let start = start.0 as u64;
-    if address < start {
+    let first = start.0 as u64;
+    let byte = (address.0 as u64) + (behind as u64);
+    if byte < first {
         return Found::Outside;
     }
-    find_byte(sub_areas, count, area, address - start)
+    find_byte(sub_areas, count, area, byte - first)
 }
 
 // The same for callers that hold the plan.
-pub fn map_address(plan: Plan, area: usize, address: u64) -> Found
+pub fn map_address(plan: Plan, area: usize, address: LogicalAddress) -> Found
     requires { ⌜ (plan .«sub_area_count» ≤ 32) × (area < 8) ⌝ }
-    ensures { λ r. ⌜ r ≡ mapped plan area (record { 0 = address }) ⌝ }
+    ensures { λ r. ⌜ r ≡ mapped plan area address ⌝ }
 {
     let record = plan.areas[area];
     let start = record.start;
-    locate(plan.sub_areas, plan.sub_area_count, start, area, address)
+    locate(plan.sub_areas, plan.sub_area_count, start, area, address, 0)
 }
 
 fn least(a: u64, b: u64) -> u64
@@ -228,19 +241,24 @@ fn segment_length(kind: JobType, sub_area: SubAreaRecord, at: u64, n: u64) -> u6
     }
 }
 
-// The segment at an offset of a sub-area, with `left` bytes of the job left.
-fn segment_in(kind: JobType, sub_area: SubAreaRecord, offset: u64, left: u64) -> Segment
-    requires { ⌜ offset ≤ sizeOf «sub_area» ⌝ }
+// The segment at an offset of a sub-area, which is at this address, with `left` bytes of the job left.
+fn segment_in(
+    kind: JobType,
+    sub_area: SubAreaRecord,
+    offset: u64,
+    start: MemAddress,
+    left: u64,
+) -> Segment
+    requires { ⌜ (offset ≤ sizeOf «sub_area») × (start .0 ≡ «sub_area» .start + offset) ⌝ }
     ensures { λ r. ⌜ r ≡ segmentIn kind «sub_area» offset left ⌝ }
 {
-    let at = (sub_area.start as u64) + offset;
     let rest = sub_area.size() - offset;
     let n = least(left, rest);
-    let length = segment_length(kind, sub_area, at, n);
+    let length = segment_length(kind, sub_area, start.0, n);
     let retries = retries_of(kind, sub_area);
     Segment {
         device: sub_area.device,
-        start: MemAddress(at),
+        start,
         length,
         retries,
     }
@@ -275,6 +293,7 @@ pub fn index_of(found: Found) -> usize
         Found::At {
             sub_area,
             offset: _,
+            address: _,
         } => sub_area,
     }
 }
@@ -289,10 +308,11 @@ pub fn segment_found(task: Task, processed: u32, sub_area: SubAreaRecord, found:
         Found::At {
             sub_area: _,
             offset,
+            address,
         } => {
             let kind = task.kind;
             let left = minus(task.length as u64, processed as u64);
-            segment_in(kind, sub_area, offset, left)
+            segment_in(kind, sub_area, offset, address, left)
         }
     }
 }
@@ -309,8 +329,8 @@ pub fn segment_from(
     requires { ⌜ count ≤ 32 ⌝ }
     ensures { λ r. ⌜ r ≡ segmentFrom «sub_areas» count (start .0) area task processed ⌝ }
 {
-    let address = (task.address.0 as u64) + (processed as u64);
-    let found = locate(sub_areas, count, start, area, address);
+    let address = task.address;
+    let found = locate(sub_areas, count, start, area, address, processed);
     let i = index_of(found);
     segment_found(task, processed, sub_areas[i], found)
 }

@@ -1,6 +1,5 @@
 pub mod PlanText
 pub mod Play
-pub mod PlayLaws
-pub mod RoundLaws
 pub mod Fold
-pub mod FoldLaws
+pub mod AllLines
+pub mod laws

@@ -3,7 +3,7 @@ ghost use mathlib.Core.Path.{_≡_};
 ghost use Prim.Native.Nat.{_+_, _≤_};
 ghost use lib.ListN.{length};
 ghost use Rattle.session.specs.Fold.{playedLast, playedInput};
-ghost use Rattle.session.specs.FoldLaws.{sessionOf};
+ghost use Rattle.session.specs.laws.FoldLaws.{sessionOf};
 use crate::play::play;
 use lines::part_end;
 use manager::Manager;
@@ -15,7 +15,7 @@ pub struct Progress {
     pub written: usize,
 }
 
-// What stands behind the last line end: `used` bytes of input lie before it, and `end` bytes were written.
+// What stands behind the last line end: `used` bytes of input lie before it, and `end` bytes were written. Left open are the bytes of `out` behind those written.
 fn play_last(
     manager: Manager,
     rest: &[u8],
@@ -63,7 +63,7 @@ fn play_last(
 }
 
 // The lines of the input, as long as the longest answer has room; what stands behind the last line end is a line only
-// where the input ends there.
+// where the input ends there. Left open are the bytes of `out` behind those written.
 pub fn play_lines(
     manager: Manager,
     input: &[u8],

@@ -1,16 +1,18 @@
 // The bench's session (document 01, "A printed session"): a plan and the lines that follow it.
 ghost use mathlib.Core.Path.{_≡_};
 ghost use Prim.Native.Nat.{_≤_};
-ghost use lib.ListN.{length, take};
+ghost use lib.ListN.{length};
 ghost use Rattle.manager.specs.Load.{loadedManager};
 ghost use Rattle.requests.specs.Effects.{memoryOf};
 ghost use Rattle.texts.specs.Appended.{Appended};
 ghost use Rattle.session.specs.Fold.{playedAll};
+ghost use Rattle.session.specs.laws.FoldLaws.{sessionOf};
 ghost use Rattle.session.specs.PlanText.{openText, imageLength, closedOf};
 
 pub mod fold;
 mod play;
 
+use crate::fold::Progress;
 use crate::fold::play_lines;
 use manager::Manager;
 use plan::questions::device_sum;
@@ -37,7 +39,7 @@ impl Opened {
     }
 }
 
-// Loads the plan, and prints what the bench answers to it; nothing where the longest answer has no room.
+// Loads the plan, and prints what the bench answers to it; nothing where the longest answer has no room. Left open are the bytes of `out` behind those written.
 pub fn open(plan: &[u8], out: &mut [u8]) -> Opened
     ensures { λ r. ⌜ r .manager ≡ loadedManager (now (plan .entry)) ⌝ }
     ensures { λ r. ⌜ (Appended (now (out .entry)) (now (out .exit)) 0 (r .written) (openText (length (now (out .entry))) (now (plan .entry)))) × (r .written ≤ length (now (out .exit))) ⌝ }
@@ -71,38 +73,26 @@ pub fn open(plan: &[u8], out: &mut [u8]) -> Opened
     }
 }
 
-// How many bytes of the input were used, and how many were written.
-pub struct Counts {
-    pub used: usize,
-    pub written: usize,
-}
-
 // A whole session: the plan, then the lines of the input, on lent image and store. It writes to `out` as long as the
-// longest answer has room there.
+// longest answer has room there. Left open are the bytes of `out` behind those written.
 pub fn play_all(
     plan: &[u8],
     input: &[u8],
     image: &mut [u8],
     store: &mut [u8],
     out: &mut [u8],
-) -> Counts
-    ensures { λ _. ⌜ now (image .exit) ≡ playedAll (now (plan .entry)) (now (input .entry)) (length (now (out .entry))) (memoryOf (now (image .entry)) (now (store .entry))) .memory .image ⌝ }
-    ensures { λ _. ⌜ now (store .exit) ≡ playedAll (now (plan .entry)) (now (input .entry)) (length (now (out .entry))) (memoryOf (now (image .entry)) (now (store .entry))) .memory .store ⌝ }
-    ensures { λ r. ⌜ take (r .written) (now (out .exit)) ≡ playedAll (now (plan .entry)) (now (input .entry)) (length (now (out .entry))) (memoryOf (now (image .entry)) (now (store .entry))) .printed ⌝ }
-    ensures { λ r. ⌜ r .used ≡ playedAll (now (plan .entry)) (now (input .entry)) (length (now (out .entry))) (memoryOf (now (image .entry)) (now (store .entry))) .used ⌝ }
-    ensures { λ r. ⌜ (r .used ≤ length (now (input .entry))) × (r .written ≤ length (now (out .exit))) ⌝ }
+) -> Progress
+    ensures { λ r. ⌜ sessionOf (r .manager) (now (image .exit)) (now (store .exit)) (now (out .exit)) (r .written) (r .used) ≡ playedAll (now (plan .entry)) (now (input .entry)) (length (now (out .entry))) (memoryOf (now (image .entry)) (now (store .entry))) ⌝ }
+    ensures { λ r. ⌜ (r .written ≤ length (now (out .exit))) × (r .used ≤ length (now (input .entry))) ⌝ }
 {
     let opened = open(plan, out);
+    let manager = opened.manager;
     if 0 < opened.written {
-        return Counts {
+        return Progress {
+            manager,
             used: 0,
             written: opened.written,
         };
     }
-    let manager = opened.manager;
-    let progress = play_lines(manager, input, true, image, store, out);
-    Counts {
-        used: progress.used,
-        written: progress.written,
-    }
+    play_lines(manager, input, true, image, store, out)
 }

@@ -1,4 +1,4 @@
-// A line of the session: read, carried out on the manager, and its answer printed into a lent buffer.
+// A line of the session: read, carried out on the manager, and its answer printed into a lent buffer, of which the bytes behind the answer are left open.
 ghost use mathlib.Core.Path.{_≡_};
 ghost use Prim.Native.Nat.{_+_, _≤_};
 ghost use lib.ListN.{length};
@@ -8,7 +8,7 @@ ghost use Rattle.requests.specs.Effects.{memoryOf};
 ghost use Rattle.texts.specs.Appended.{Appended};
 ghost use Rattle.texts.specs.Texts.{numberLine};
 ghost use Rattle.session.specs.Play.{numberOfCall, afterCall, infoText, roundText, playedText, playedManager, playedMemory};
-ghost use Rattle.session.specs.PlayLaws.{playedOf, leftBy};
+ghost use Rattle.session.specs.laws.PlayLaws.{playedOf, leftBy};
 use lines::Line;
 use lines::LineCall;
 use lines::line_of;

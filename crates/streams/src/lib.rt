@@ -1,5 +1,6 @@
 // Reading and writing of whole contents: the end is told from an error, a call that a signal cut off is made again, and
-// what a call left over is read or written by the next.
+// what a call left over is read or written by the next. The C library decides what a read brings and how much a write takes, and its contracts bound counts alone: so the bytes of a buffer that was read
+// into are left open, those behind the count too, and which of the answers comes.
 ghost use Prim.Native.Nat.{_≤_};
 ghost use lib.ListN.{length};
 ghost use Rattle.streams.specs.Counts.{chunkWithin, contentsWithin};
@@ -18,7 +19,7 @@ pub enum Contents {
     Failed(i32),
 }
 
-// Reads once, and again while a signal cuts the read off before it moved a byte.
+// Reads once, and again while a signal cuts the read off before it moved a byte. A count is at least 1 and within buf; all of buf is left open.
 pub fn read_some(fd: i32, buf: &mut [u8]) -> Chunk
     ensures { λ r. ⌜ chunkWithin r (length (now (buf .exit))) ⌝ }
 {
@@ -41,7 +42,7 @@ pub fn read_some(fd: i32, buf: &mut [u8]) -> Chunk
     Chunk::Failed(libc::EINTR)
 }
 
-// Reads fd to its end into buf, which is one byte longer than what may come.
+// Reads fd to its end into buf, which is one byte longer than what may come. A count is within buf; all of buf is left open.
 pub fn read_to_end(fd: i32, buf: &mut [u8]) -> Contents
     ensures { λ r. ⌜ contentsWithin r (length (now (buf .exit))) ⌝ }
 {
@@ -62,7 +63,7 @@ pub fn read_to_end(fd: i32, buf: &mut [u8]) -> Contents
     Contents::TooLong
 }
 
-// Reads the file at path into buf, which is one byte longer than what may come.
+// Reads the file at path into buf, which is one byte longer than what may come. A count is within buf; all of buf is left open.
 pub fn read_file(path: &[u8], buf: &mut [u8]) -> Contents
     ensures { λ r. ⌜ contentsWithin r (length (now (buf .exit))) ⌝ }
 {
@@ -75,7 +76,7 @@ pub fn read_file(path: &[u8], buf: &mut [u8]) -> Contents
     contents
 }
 
-// Writes all of buf, and answers how many bytes of it were written: fewer only where a write failed.
+// Writes buf from its first byte on, until all is written or a write fails, and answers how many bytes of it the writes took: at most all. How many that are is left open.
 pub fn write_all(fd: i32, buf: &[u8]) -> usize
     ensures { λ r. ⌜ r ≤ length (now (buf .entry)) ⌝ }
 {

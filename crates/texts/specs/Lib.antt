@@ -1,4 +1,4 @@
 pub mod Appended
 pub mod Texts
-pub mod TextLaws
-pub mod Examples
+pub mod runs
+pub mod laws

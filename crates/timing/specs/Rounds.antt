@@ -15,11 +15,11 @@ use Rattle.rules.specs.Memory.{Memory}
 use Rattle.timing.specs.Repeated.{total, turn}
 
 -- the answer of a number that C hands over: 0 pending, 1 done, any other failed after 2 bytes fewer
-unfoldable pub answerOf : ℕ → DeviceAnswer
-answerOf n = pick (eqb n 0) Pending (pick (eqb n 1) Done (Failed (n - 2)))
+unfoldable pub answerNumbered : ℕ → DeviceAnswer
+answerNumbered n = pick (eqb n 0) Pending (pick (eqb n 1) Done (Failed (n - 2)))
 
 abbrev pub answersOf : ℕ → List DeviceAnswer
-answersOf n = replicate 4 (answerOf n)
+answersOf n = replicate 4 (answerNumbered n)
 
 -- a manager with the memory that its rounds are lent
 pub record Bench : Type 0 where

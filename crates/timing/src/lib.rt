@@ -7,7 +7,7 @@ ghost use Rattle.manager.specs.Load.{loadedManager};
 ghost use Rattle.timing.specs.Repeated.{taskOf, cancelTotal, jobTotal, pairTotal, busyManager, infoTotal};
 ghost use Rattle.memory.specs.Numbers.{admissionNumber};
 ghost use Rattle.requests.specs.Effects.{memoryOf};
-ghost use Rattle.timing.specs.Rounds.{answerOf, answersOf, processedTotal, roundsTotal, benchAfter};
+ghost use Rattle.timing.specs.Rounds.{answerNumbered, answersOf, processedTotal, roundsTotal, benchAfter};
 use manager::Answered;
 use manager::Manager;
 use memory::DeviceAnswer;
@@ -137,7 +137,7 @@ pub extern "C" fn luvdrog_time_infos(plan: &[u8], kind: u8, length: u32, times: 
 
 // What every device answers.
 fn answer_of(number: u32) -> DeviceAnswer
-    ensures { λ r. ⌜ r ≡ answerOf number ⌝ }
+    ensures { λ r. ⌜ r ≡ answerNumbered number ⌝ }
 {
     if number == 0 {
         return DeviceAnswer::Pending;

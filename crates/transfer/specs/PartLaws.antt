@@ -1,5 +1,6 @@
 -- The turns of the loops over bytes, and what a lent part is.
 use Prim.Native.Nat.{ℕ, _+_, _-_, _≤_, _<_, min}
+use mathlib.Core.Bool.{Bool}
 use mathlib.Core.Path.{_≡_, sym, ap, _∙_}
 use mathlib.Core.List.{List, [], _∷_, _++_, append-nil}
 use native.Mathlib.Omega.{arith}
@@ -52,29 +53,36 @@ anded d s =
     let n = min (length d) (length s) in
     listed (λ i. bitAnd (getD d i 0) (getD s i 0)) 0 n ++ drop n d
 
--- the same for two lent parts, told of the wholes
-pub anded-parts : (image store : List ℕ) (p q n : ℕ) → p + n ≤ length image → q + n ≤ length store →
-    anded (part p n image) (part q n store) ≡ listed (λ i. bitAnd (getD image (p + i) 0) (getD store (q + i) 0)) 0 n
+-- the same for a lent part and a list as long, told of the whole
+pub anded-part : (image w : List ℕ) (p : ℕ) → p + length w ≤ length image →
+    anded (part p (length w) image) w ≡ listed (λ i. bitAnd (getD image (p + i) 0) (getD w i 0)) 0 (length w)
 unfolding anded
-anded-parts image store p q n h k =
-    let all : min (length (part p n image)) (length (part q n store)) ≡ n = omega (arith, length-part p n image h, length-part q n store k) in
+anded-part image w p h =
+    let n = length w in
+    let all : min (length (part p n image)) n ≡ n = omega (arith, length-part p n image h) in
     let none : drop n (part p n image) ≡ [] = drop-of-length-le (part p n image) {i = n} (omega (arith, length-part p n image h)) in
     rw (all, none, append-nil)
-    (listed-same _ _ 0 0 n (λ i l. rw zero-add (λ j. bitAnd (part-at 0 p n image i l j) (part-at 0 q n store i l j))))
+    (listed-same _ _ 0 0 n (λ i l. rw zero-add (λ j. bitAnd (part-at 0 p n image i l j) (getD w i 0))))
 
--- a statement about each byte of two lent parts, told of the wholes
+-- a statement about each byte of a lent part, told of the whole
 module _ (image : List ℕ) (p n : ℕ) (h : p + n ≤ length image) where
   pub length-lent : length (take (p + n - p) (drop p image)) ≡ n
   length-lent = rw (part-is p n image) (length-part p n image h)
 
-  pub same-parts : (store w : List ℕ) (q : ℕ) → w ≡ part q n store →
+  pub same-parts : (w : List ℕ) →
       every (λ i. eqb (getD (take (p + n - p) (drop p image)) i 0) (getD w i 0)) (length (take (p + n - p) (drop p image)))
-      ≡ every (λ i. eqb (getD image (p + i) 0) (getD store (q + i) 0)) n
-  same-parts store w q e =
-      rw (length-lent, e)
-      (every-same _ _ n (λ i l. rw (part-is p n image, part-at 0 p n image i l, part-at 0 q n store i l)))
+      ≡ every (λ i. eqb (getD image (p + i) 0) (getD w i 0)) n
+  same-parts w = rw length-lent (every-same _ _ n (λ i l. rw (part-is p n image, part-at 0 p n image i l)))
 
   pub blank-parts :
       every (λ i. eqb (getD (take (p + n - p) (drop p image)) i 0) 255) (length (take (p + n - p) (drop p image)))
       ≡ every (λ i. eqb (getD image (p + i) 0) 255) n
   blank-parts = rw length-lent (every-same _ _ n (λ i l. rw (part-is p n image, part-at 0 p n image i l)))
+
+-- what is made of each byte of a window's part, told of the store
+module _ (store w : List ℕ) (q n : ℕ) (is : w ≡ part q n store) (long : length w ≡ n) where
+  pub listed-window : (f : ℕ → ℕ → ℕ) → listed (λ i. f i (getD w i 0)) 0 (length w) ≡ listed (λ i. f i (getD store (q + i) 0)) 0 n
+  listed-window f = rw (long, is) (listed-same _ _ 0 0 n (λ i l. rw zero-add (ap (f i) (part-at 0 q n store i l))))
+
+  pub every-window : (f : ℕ → ℕ → Bool) → every (λ i. f i (getD w i 0)) (length w) ≡ every (λ i. f i (getD store (q + i) 0)) n
+  every-window f = rw (long, is) (every-same _ _ n (λ i l. ap (f i) (part-at 0 q n store i l)))

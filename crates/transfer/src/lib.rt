@@ -88,8 +88,8 @@ pub fn window_part<'a>(store: &'a [u8], from: usize, n: usize) -> &'a [u8]
     &store[from..e]
 }
 
-// All of src goes to dst at p.
-fn copy_to(dst: &mut [u8], p: usize, src: &[u8])
+// All of src goes to dst at p: for a write the window's part to the image, for a read the image's part to the window.
+pub fn write_part(dst: &mut [u8], p: usize, src: &[u8])
     requires { ⌜ p + length (now src) ≤ length (now dst) ⌝ }
     ensures { λ _. ⌜ now (dst .exit) ≡ put p (now (src .entry)) (now (dst .entry)) ⌝ }
 {
@@ -97,23 +97,13 @@ fn copy_to(dst: &mut [u8], p: usize, src: &[u8])
     copy_all(&mut dst[p..e], src);
 }
 
-// n bytes of the window at q go to the image at p.
-pub fn write_part(image: &mut [u8], p: usize, store: &[u8], q: usize, n: usize)
-    requires { ⌜ (p + n ≤ length (now image)) × (q + n ≤ length (now store)) ⌝ }
-    ensures { λ _. ⌜ now (image .exit) ≡ put p (part q n (now (store .entry))) (now (image .entry)) ⌝ }
+// All of src is and-ed into dst at p.
+pub fn and_part(dst: &mut [u8], p: usize, src: &[u8])
+    requires { ⌜ p + length (now src) ≤ length (now dst) ⌝ }
+    ensures { λ _. ⌜ now (dst .exit) ≡ put p (listed (λ i. bitAnd (getD (now (dst .entry)) (p + i) 0) (getD (now (src .entry)) i 0)) 0 (length (now (src .entry)))) (now (dst .entry)) ⌝ }
 {
-    let w = window_part(store, q, n);
-    copy_to(image, p, w);
-}
-
-// n bytes of the window at q are and-ed into the image at p.
-pub fn and_part(image: &mut [u8], p: usize, store: &[u8], q: usize, n: usize)
-    requires { ⌜ (p + n ≤ length (now image)) × (q + n ≤ length (now store)) ⌝ }
-    ensures { λ _. ⌜ now (image .exit) ≡ put p (listed (λ i. bitAnd (getD (now (image .entry)) (p + i) 0) (getD (now (store .entry)) (q + i) 0)) 0 n) (now (image .entry)) ⌝ }
-{
-    let e = p + n;
-    let w = window_part(store, q, n);
-    and_all(&mut image[p..e], w);
+    let e = p + src.len();
+    and_all(&mut dst[p..e], src);
 }
 
 // n bytes of the image at p go to the window at q.
@@ -122,7 +112,7 @@ pub fn read_part(store: &mut [u8], q: usize, image: &[u8], p: usize, n: usize)
     ensures { λ _. ⌜ now (store .exit) ≡ put q (part p n (now (image .entry))) (now (store .entry)) ⌝ }
 {
     let e = p + n;
-    copy_to(store, q, &image[p..e]);
+    write_part(store, q, &image[p..e]);
 }
 
 pub fn erase_part(image: &mut [u8], p: usize, n: usize)
@@ -133,14 +123,13 @@ pub fn erase_part(image: &mut [u8], p: usize, n: usize)
     fill_all(&mut image[p..e], 255);
 }
 
-// Are the n bytes of the image at p those of the window at q?
-pub fn same_part(image: &[u8], p: usize, store: &[u8], q: usize, n: usize) -> bool
-    requires { ⌜ (p + n ≤ length (now image)) × (q + n ≤ length (now store)) ⌝ }
-    ensures { λ r. ⌜ r ≡ every (λ i. eqb (getD (now (image .entry)) (p + i) 0) (getD (now (store .entry)) (q + i) 0)) n ⌝ }
+// Are the bytes of the image at p those of the window's part?
+pub fn same_part(image: &[u8], p: usize, window: &[u8]) -> bool
+    requires { ⌜ p + length (now window) ≤ length (now image) ⌝ }
+    ensures { λ r. ⌜ r ≡ every (λ i. eqb (getD (now (image .entry)) (p + i) 0) (getD (now (window .entry)) i 0)) (length (now (window .entry))) ⌝ }
 {
-    let e = p + n;
-    let w = window_part(store, q, n);
-    same_all(&image[p..e], w)
+    let e = p + window.len();
+    same_all(&image[p..e], window)
 }
 
 // Are the n bytes of the image at p all 255?

@@ -7,7 +7,7 @@ use crate::segments;
 
 /// "job info (type, address, length, result, processed length, counts, request's device, physical
 /// address, length, polls)".
-#[derive(Clone, Copy, Debug, PartialEq, Eq)]
+#[derive(Clone, Copy, Debug, Default, PartialEq, Eq)]
 pub struct JobInfo {
     /// 0, the "no job" of 000, before the first one.
     pub job_type: u8,
@@ -31,7 +31,7 @@ pub struct RequestInfo {
 
 /// The sub-area that holds an address: the fields of 000, 8.2.9, in its order, each with its source
 /// in the plan.
-#[derive(Clone, Copy, Debug, PartialEq, Eq)]
+#[derive(Clone, Copy, Debug, Default, PartialEq, Eq)]
 pub struct MemoryInfo {
     /// The area's logical start and the sizes of its earlier sub-areas.
     pub logical_start_address: u32,

@@ -4,9 +4,9 @@ use crate::subject::Subject;
 
 /// Bytes of the input that were used, and bytes of the output that were written.
 #[repr(C)]
-struct Counts {
-    used: usize,
-    written: usize,
+pub(super) struct Counts {
+    pub(super) used: usize,
+    pub(super) written: usize,
 }
 
 extern "C" {
@@ -30,6 +30,12 @@ const ROOM_OF_A_LINE: usize = 512;
 /// The proved library as a subject.
 pub struct Library;
 
+/// Room for all that a session prints.
+pub(super) fn room(input: &[u8]) -> usize {
+    let lines = input.iter().filter(|byte| **byte == b'\n').count() + 2;
+    lines * ROOM_OF_A_LINE
+}
+
 impl Subject for Library {
     fn session(
         &mut self,
@@ -38,8 +44,7 @@ impl Subject for Library {
         image: &mut [u8],
         store: &mut [u8],
     ) -> Vec<u8> {
-        let lines = input.iter().filter(|byte| **byte == b'\n').count() + 2;
-        let mut output = vec![0; lines * ROOM_OF_A_LINE];
+        let mut output = vec![0; room(input)];
         // SAFETY: each pointer and length are those of one live slice, of which the call only
         // reads the first two; the slices that it writes share no byte with any other.
         let counts = unsafe {

@@ -1,9 +1,11 @@
 //! Subjects that are wrong on purpose: the model with its plan, its lines or its output changed on
 //! the way, with another order of acceptance, with erases that give way wrongly, or with writes that
-//! leave other bytes. The comparison must find each of them.
+//! leave other bytes; and answers to queries that are wrong (`queries`). The comparison must find each
+//! of them.
 
 mod clearing;
 mod order;
+pub mod queries;
 mod suspension;
 
 use clearing::{right_byte, stored_if};

@@ -1,5 +1,5 @@
 use mathlib.Core.Path.{sym, ap, _∙_}
-use Rattle.admission.specs.RangeLaws.{isFound, back-mapped}
+use Rattle.admission.specs.RangeLaws.{isFound, mapped-behind, back-mapped}
 use borrow.Author.Needs.{needs}
 use Rattle.admission.proofs.first_byte.Statement.{statement}
 use Rattle.admission.proofs.first_byte.Tie as tie
@@ -16,16 +16,13 @@ sub-back-from : tie.Need-sub-back-from
 sub-back-from c = search needs
 
 back-from-requires : tie.Need-back-from-requires
-back-from-requires c κs = search needs
+back-from-requires c κs = mapped-behind _ _ _ _ (c .before .pre .3)
 
 is-found-requires : tie.Need-is-found-requires
 is-found-requires c κs = search needs
 
 returns : tie.Need-returns
 returns c = c .before .before .back-from .ensures ∙ back-mapped (c .before .before .before .before .args .plan) (c .before .before .before .before .args .area) (c .before .before .before .before .args .task .address .0) (c .before .before .before .before .args .task .length) (c .before .before .before .before .args .last) (c .before .before .before .before .pre .3) (c .before .before .before .before .pre .2) (sym (ap isFound (c .before .before .back-from .ensures)) ∙ sym (c .before .is-found .ensures) ∙ c .if1 .taken)
-
-cast-map-address : tie.Need-cast-map-address
-cast-map-address c = search needs
 
 map-address-requires : tie.Need-map-address-requires
 map-address-requires c κs = search needs
@@ -42,6 +39,5 @@ first-byte-spec =
     back-from-requires
     is-found-requires
     returns
-    cast-map-address
     map-address-requires
     returns-2)

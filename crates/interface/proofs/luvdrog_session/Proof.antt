@@ -1,3 +1,5 @@
+use mathlib.Core.Path.{ap}
+use Rattle.session.specs.Fold.{Session}
 use borrow.Author.Needs.{needs}
 use Rattle.interface.proofs.luvdrog_session.Statement.{statement}
 use Rattle.interface.proofs.luvdrog_session.Tie as tie
@@ -18,7 +20,9 @@ same-length-3 : tie.Need-same-length-3
 same-length-3 c = search needs
 
 returns : tie.Need-returns
-returns c = (c .before .before .before .before .before .before .play-all .ensures .0, (c .before .before .before .before .before .before .play-all .ensures .1 .0, (c .before .before .before .before .before .before .play-all .ensures .1 .1 .0, (c .before .before .before .before .before .before .play-all .ensures .1 .1 .1 .0, c .before .before .before .before .before .before .play-all .ensures .1 .1 .1 .1))))
+returns c =
+    let p = c .before .before .before .before .before .before .play-all .ensures in
+    (ap (λ (x : Session). x .memory .image) (p .0), (ap (λ (x : Session). x .memory .store) (p .0), (ap (λ (x : Session). x .printed) (p .0), (ap (λ (x : Session). x .used) (p .0), (p .1 .1, p .1 .0)))))
 
 pub luvdrog-session-spec : {M : Type 1} → statement M
 luvdrog-session-spec =

@@ -1,5 +1,5 @@
 use Rattle.lines.specs.Fields.{fieldsFrom}
-use Rattle.lines.specs.LineLaws.{answer-for, answer-beyond}
+use Rattle.lines.specs.laws.LineLaws.{answer-for, answer-beyond}
 use borrow.Author.Needs.{needs}
 use Rattle.lines.proofs.answer_for.Statement.{statement}
 use Rattle.lines.proofs.answer_for.Tie as tie

@@ -1,6 +1,6 @@
 use Rattle.lines.specs.Fields.{fieldsFrom}
-use Rattle.lines.specs.Fields.{more-fields, no-fields}
-use Rattle.lines.specs.LineLaws.{answers-many, answers-here}
+use Rattle.lines.specs.laws.FieldLaws.{more-fields, no-fields}
+use Rattle.lines.specs.laws.LineLaws.{answers-many, answers-here}
 use borrow.Author.Needs.{needs}
 use Rattle.lines.proofs.answers_of.Statement.{statement}
 use Rattle.lines.proofs.answers_of.Tie as tie

@@ -1,4 +1,4 @@
-use Rattle.lines.specs.LineLaws.{line-no-type, line-typed}
+use Rattle.lines.specs.laws.LineLaws.{line-no-type, line-typed}
 use borrow.Author.Tests.{lt-ltb}
 use borrow.Author.Needs.{needs}
 use Rattle.lines.proofs.line_of.Statement.{statement}

@@ -1,4 +1,4 @@
-use Rattle.lines.specs.LineLaws.{answer-past, answer-here}
+use Rattle.lines.specs.laws.LineLaws.{answer-past, answer-here}
 use borrow.Author.Needs.{needs}
 use Rattle.lines.proofs.next_answer.Statement.{statement}
 use Rattle.lines.proofs.next_answer.Tie as tie

@@ -1,4 +1,4 @@
-use Rattle.lines.specs.LineLaws.{number-past, number-here}
+use Rattle.lines.specs.laws.LineLaws.{number-past, number-here}
 use borrow.Author.Needs.{needs}
 use Rattle.lines.proofs.next_number.Statement.{statement}
 use Rattle.lines.proofs.next_number.Tie as tie

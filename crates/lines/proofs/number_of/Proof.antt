@@ -5,7 +5,8 @@ use lib.ListN.{length}
 use native.Mathlib.Omega.{arith}
 use Rattle.arith.specs.Bounded.{every, every-more}
 use Rattle.lines.specs.declared.Number.the-variants.{Value}
-use Rattle.lines.specs.Number.{digitAt, valueOf, value-more, number-empty, number-low, number-high, number-over, number-is, digit-at}
+use Rattle.lines.specs.Number.{digitAt, valueOf}
+use Rattle.lines.specs.laws.NumberLaws.{value-more, number-empty, number-low, number-high, number-over, number-is, digit-at}
 use borrow.Author.Needs.{needs}
 use Rattle.lines.proofs.number_of.Statement.{statement}
 use Rattle.lines.proofs.number_of.Tie as tie

@@ -1,6 +1,6 @@
 use Rattle.lines.specs.Fields.{fieldsFrom}
-use Rattle.lines.specs.Fields.{more-fields, no-fields}
-use Rattle.lines.specs.LineLaws.{only-many, only-here}
+use Rattle.lines.specs.laws.FieldLaws.{more-fields, no-fields}
+use Rattle.lines.specs.laws.LineLaws.{only-many, only-here}
 use borrow.Author.Needs.{needs}
 use Rattle.lines.proofs.only_number.Statement.{statement}
 use Rattle.lines.proofs.only_number.Tie as tie

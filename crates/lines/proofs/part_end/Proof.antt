@@ -2,7 +2,8 @@ use Prim.Native.Nat.{_-_, _≤_}
 use mathlib.Core.Path.{_≡_}
 use lib.ListN.{length}
 use native.Mathlib.Omega.{arith}
-use Rattle.lines.specs.Fields.{cutFrom, inFront, word, word-none, field-more, field-space, field-last}
+use Rattle.lines.specs.Fields.{cutFrom, inFront}
+use Rattle.lines.specs.laws.FieldLaws.{word, word-none, field-more, field-space, field-last}
 use borrow.Author.Needs.{needs}
 use Rattle.lines.proofs.part_end.Statement.{statement}
 use Rattle.lines.proofs.part_end.Tie as tie

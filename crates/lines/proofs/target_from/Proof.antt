@@ -1,6 +1,6 @@
 use Rattle.lines.specs.Fields.{fieldsFrom}
-use Rattle.lines.specs.Fields.{more-fields, no-fields}
-use Rattle.lines.specs.LineLaws.{target-many, target-here}
+use Rattle.lines.specs.laws.FieldLaws.{more-fields, no-fields}
+use Rattle.lines.specs.laws.LineLaws.{target-many, target-here}
 use borrow.Author.Needs.{needs}
 use Rattle.lines.proofs.target_from.Statement.{statement}
 use Rattle.lines.proofs.target_from.Tie as tie

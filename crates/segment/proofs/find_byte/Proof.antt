@@ -53,8 +53,8 @@ use Rattle.plan.specs.declared.records.SubAreaRecord.{SubAreaRecord}
 use Rattle.plan.proofs.records.SubAreaRecord as T
 use Rattle.plan.proofs.records.SubAreaRecord.Laws as T′
 use Rattle.segment.specs.Mapping.{find}
-use Rattle.segment.specs.LookupLaws.{find-front}
-use Rattle.segment.specs.Walks.{localType, here, value, answered}
+use Rattle.segment.specs.laws.LookupLaws.{find-front}
+use Rattle.segment.specs.laws.Walks.{localType, here, value, answered}
 use Rattle.segment.specs.declared.Found.{Found}
 use Rattle.segment.proofs.Found as F
 use Rattle.segment.proofs.Found.Laws as F′

@@ -6,8 +6,14 @@ use Rattle.segment.proofs.locate.Reads as reads
 use Rattle.segment.proofs.locate.Lts as lts
 use Rattle.segment.proofs.find_byte.Reads as find-byte-reads
 
-cast-start : tie.Need-cast-start
-cast-start c = search needs
+cast-first : tie.Need-cast-first
+cast-first c = search needs
+
+cast-byte : tie.Need-cast-byte
+cast-byte c = search needs
+
+add-byte : tie.Need-add-byte
+add-byte c = search needs
 
 returns : tie.Need-returns
 returns c = simp (lt-ltb _ _ (c .if1 .taken))
@@ -19,4 +25,5 @@ returns-2 : tie.Need-returns-2
 returns-2 c = simp (← (c .find-byte .ensures), le-ltb _ _ (c .before .if1 .left))
 
 pub locate-spec : {M : Type 1} → statement M
-locate-spec = tie.close (tie.spec cast-start returns find-byte-requires returns-2)
+locate-spec =
+    tie.close (tie.spec cast-first cast-byte add-byte returns find-byte-requires returns-2)

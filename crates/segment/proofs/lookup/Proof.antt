@@ -51,9 +51,9 @@ use Rattle.plan.specs.Questions.{subAreaOf}
 use Rattle.plan.specs.declared.records.SubAreaRecord.{SubAreaRecord}
 use Rattle.plan.proofs.records.SubAreaRecord as T
 use Rattle.plan.proofs.records.SubAreaRecord.Laws as T′
-use Rattle.segment.specs.Lookup.{met, outcomeOf, seekTo}
-use Rattle.segment.specs.LookupLaws.{seek-finds}
-use Rattle.segment.specs.Walks.{localType, here, value, answered, counted}
+use Rattle.segment.specs.laws.Lookup.{met, outcomeOf, seekTo}
+use Rattle.segment.specs.laws.LookupLaws.{seek-finds}
+use Rattle.segment.specs.laws.Walks.{localType, here, value, answered, counted}
 use Rattle.segment.specs.declared.Seek.{Seek}
 use Rattle.segment.specs.declared.Found.{Found}
 use Rattle.segment.proofs.Seek as S
@@ -140,9 +140,9 @@ module _ {M : Type 1} (𝓤 : URA M) (H : Heap 𝓤) (A : Atoms 𝓤) (W : Given
 
   first : off < 2 ^ 64 → IsK 0
   unfolding seekTo
-  first go = LL.owes S.the-type S′.the-laws (k-at 0) (refl, ((refl, lit< tt), ((refl, go), tt)))
+  first go = LL.owes S.the-type S′.the-laws (k-at 0) (refl, ((refl, lit< tt), ((refl, go), ((refl, lit< tt), tt))))
 
-  first-is : kval (k-at 0) ≡ vstruct (vcons (vbool false) (vcons (vint w64 0) (vcons (vint w64 off) vnil)))
+  first-is : kval (k-at 0) ≡ vstruct (vcons (vbool false) (vcons (vint w64 0) (vcons (vint w64 off) (vcons (vint w64 0) vnil))))
   unfolding seekTo
   first-is = refl
 
@@ -282,8 +282,8 @@ module _ {M : Type 1} (𝓤 : URA M) (H : Heap 𝓤) (A : Atoms 𝓤) (W : Given
         qed W ((‵ (flft κ q) ⊛ ‵ ftrue) ∷ ‵ (owns (ShrSlice (named 0) κ R ∷ usize ∷ u64 ∷ []) x at) ∷ []) ∵ enter ! C Λ code.function (sliceVal (b, o) n ∷ vint w64 ar ∷ vint w64 off ∷ []) _ $
         alloc1 ! (λ l₀. alloc1 ! (λ l₁. alloc1 ! (λ l₂. alloc1 ! (λ l₃. alloc1 ! (λ l₄. alloc1 ! (λ l₅. alloc1 ! (λ l₆. alloc1 ! (λ l₇. alloc1 ! (λ l₈. alloc1 ! (λ l₉. alloc0 ! $ params1 ! $
         pass1 ! (init ! 16 refl (tt, (tt, (record { fits = gn .0 }, tt)))) $ pass1 ! (init ! 14 refl (tt, record { fits = ga })) $ pass1 ! (init ! 12 refl (tt, record { fits = go })) $ pass0 ! $
-        -- seek = Seek { found: false, sub_area: 0, left: offset }, and i = 0
-        assigns ! (agg ! (and-then ! (false-lit !) (and-then ! (lit ! tt) (and-then ! (value ! 12 refl) (no-more !))))) (here !) (init ! 10 refl (LL.lawful S.the-type S′.the-laws 𝓤 H A W .typed (k-at 0) _ (subst (λ (w : Val). Is K (k-at 0) (w ∷ [])) first-is (first go)) .0)) $
+        -- seek = Seek { found: false, sub_area: 0, left: offset, at: 0 }, and i = 0
+        assigns ! (agg ! (and-then ! (false-lit !) (and-then ! (lit ! tt) (and-then ! (value ! 12 refl) (and-then ! (lit ! tt) (no-more !)))))) (here !) (init ! 10 refl (LL.lawful S.the-type S′.the-laws 𝓤 H A W .typed (k-at 0) _ (subst (λ (w : Val). Is K (k-at 0) (w ∷ [])) first-is (first go)) .0)) $
         rewrite ! 10 (λ (w : Val). ‵ (fat fullShare (ty 4) l₄ 0 w)) (sym first-is) refl $
         assigns ! (of-opd ! (lit ! tt)) (here !) (init ! 8 refl (tt, record { fits = lit< tt })) $
         move ! (21 ∷ []) $ fsplit ! $ fsplit ! $ move ! (1 ∷ []) $ fsplit ! $ move ! (24 ∷ []) $ split ! $

@@ -1,5 +1,6 @@
+use native.Mathlib.Nat.{add-zero}
 use mathlib.Core.Path.{_∙_}
-use Rattle.segment.specs.Found.{located-mapped}
+use Rattle.segment.specs.laws.Found.{located-mapped}
 use borrow.Author.Needs.{needs}
 use Rattle.segment.proofs.map_address.Statement.{statement}
 use Rattle.segment.proofs.map_address.Tie as tie
@@ -17,7 +18,9 @@ locate-requires : tie.Need-locate-requires
 locate-requires c κs = search needs
 
 returns : tie.Need-returns
-returns c = c .locate .ensures ∙ located-mapped (c .before .before .before .before .args .t1) (c .before .before .before .before .args .area) (c .before .before .before .before .args .address)
+returns c =
+    let a = c .before .before .before .before .args in
+    (rw add-zero at (c .locate .ensures)) ∙ located-mapped (a .t1) (a .area) (a .address .0)
 
 pub map-address-spec : {M : Type 1} → statement M
 map-address-spec = tie.close (tie.spec mul-record element-copy-out-record locate-requires returns)

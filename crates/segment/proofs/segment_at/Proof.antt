@@ -1,5 +1,5 @@
 use mathlib.Core.Path.{_∙_}
-use Rattle.segment.specs.Found.{segment-from}
+use Rattle.segment.specs.laws.Found.{segment-from}
 use borrow.Author.Needs.{needs}
 use Rattle.segment.proofs.segment_at.Statement.{statement}
 use Rattle.segment.proofs.segment_at.Tie as tie

@@ -2,7 +2,7 @@ use Rattle.segment.specs.Segments.{segmentOf}
 use mathlib.Core.Path.{_∙_, ap}
 use Prim.Native.Nat.{_+_, _-_}
 use native.Mathlib.Omega.{arith}
-use Rattle.segment.specs.Found.{index-within, offset-inside, if-found}
+use Rattle.segment.specs.laws.Found.{index-within, offset-inside, if-found}
 use borrow.Author.Needs.{needs}
 use Rattle.segment.proofs.segment_from.Statement.{statement}
 use Rattle.segment.proofs.segment_from.Tie as tie
@@ -11,12 +11,6 @@ use Rattle.segment.proofs.segment_from.Lts as lts
 use Rattle.segment.proofs.index_of.Reads as index-of-reads
 use Rattle.segment.proofs.locate.Reads as locate-reads
 use Rattle.segment.proofs.segment_found.Reads as segment-found-reads
-
-cast-address : tie.Need-cast-address
-cast-address c = search needs
-
-add-address : tie.Need-add-address
-add-address c = search needs
 
 locate-requires : tie.Need-locate-requires
 locate-requires c κs = search needs
@@ -40,8 +34,6 @@ pub segment-from-spec : {M : Type 1} → statement M
 segment-from-spec =
     tie.close
     (tie.spec
-    cast-address
-    add-address
     locate-requires
     index-of-requires
     mul-segment-found

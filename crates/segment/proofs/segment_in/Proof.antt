@@ -1,5 +1,4 @@
-use native.Mathlib.Omega.{arith}
-use Rattle.arith.specs.Products.{product-fits}
+use Rattle.segment.specs.laws.Found.{segment-there}
 use borrow.Author.Needs.{needs}
 use Rattle.segment.proofs.segment_in.Statement.{statement}
 use Rattle.segment.proofs.segment_in.Tie as tie
@@ -9,12 +8,6 @@ use Rattle.plan.proofs.records.SubAreaRecord.size.Reads as size-reads
 use Rattle.segment.proofs.least.Reads as least-reads
 use Rattle.segment.proofs.retries_of.Reads as retries-of-reads
 use Rattle.segment.proofs.segment_length.Reads as segment-length-reads
-
-cast-at : tie.Need-cast-at
-cast-at c = search needs
-
-add-at : tie.Need-add-at
-add-at c = omega (arith, product-fits {a = c .before .args .sub-area .erase .unit} {b = c .before .args .sub-area .«sector_count»} (search needs) (search needs))
 
 size-requires : tie.Need-size-requires
 size-requires c κs = search needs
@@ -32,14 +25,15 @@ retries-of-requires : tie.Need-retries-of-requires
 retries-of-requires c κs = search needs
 
 returns : tie.Need-returns
-returns c = rw (c .retries-of .ensures, c .before .segment-length .ensures, c .before .before .least .ensures, c .before .before .before .size .ensures .0)
+returns c =
+    let a = c .before .before .before .before .args in
+    rw (c .retries-of .ensures, c .before .segment-length .ensures, c .before .before .least .ensures, c .before .before .before .size .ensures .0)
+    (segment-there (a .kind) (a .sub-area) (a .offset) (a .left) (a .start) (c .before .before .before .before .pre .1))
 
 pub segment-in-spec : {M : Type 1} → statement M
 segment-in-spec =
     tie.close
     (tie.spec
-    cast-at
-    add-at
     size-requires
     sub-rest
     least-requires

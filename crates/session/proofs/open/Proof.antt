@@ -1,4 +1,4 @@
-use Rattle.session.specs.PlanText.{kept-sum, few-devices, number-some, text-long, text-refused, text-sum, text-accepted, open-full, open-closed, open-open}
+use Rattle.session.specs.laws.PlanTextLaws.{kept-sum, few-devices, number-some, text-long, text-refused, text-sum, text-accepted, open-full, open-closed, open-open}
 use Rattle.plan.specs.Questions.{loadNumber}
 use native.Mathlib.Omega.{arith}
 use mathlib.Core.Path.{_≡_, refl, _∙_}

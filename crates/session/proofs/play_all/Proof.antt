@@ -1,8 +1,5 @@
-use Rattle.session.specs.FoldLaws.{all-refused, all-lines}
-use Rattle.session.specs.Fold.{Session}
-use Rattle.requests.specs.Effects.{memoryOf}
+use Rattle.session.specs.laws.FoldLaws.{all-refused, all-lines}
 use native.Mathlib.Omega.{arith}
-use mathlib.Core.Path.{ap}
 use borrow.Author.Needs.{needs}
 use Rattle.session.proofs.play_all.Statement.{statement}
 use Rattle.session.proofs.play_all.Tie as tie
@@ -18,10 +15,9 @@ same-length : tie.Need-same-length
 same-length c = search needs
 
 returns : tie.Need-returns
-returns c = let a = c .before .before .before .before .before .before .before .before .before .before .before .args in
-    let o = c .before .before .before .before .«open» .ensures .1 .0 in
-    let e = all-refused (a .plan .now) (a .input .now) (memoryOf (a .image .now) (a .store .now)) (o .0) (c .if1 .taken) in
-    (ap (λ (x : Session). x .memory .image) e, (ap (λ (x : Session). x .memory .store) e, (ap (λ (x : Session). x .printed) e, (ap (λ (x : Session). x .used) e, (omega arith, o .1)))))
+returns c = let a = c .before .before .before .before .before .before .before .before .before .before .before .before .args in
+    let o = c .before .before .before .before .before .«open» .ensures in
+    (all-refused (a .plan .now) (a .input .now) (a .image .now) (a .store .now) _ (o .0) (o .1 .0 .0) (c .if1 .taken), (o .1 .0 .1, omega arith))
 
 play-lines-requires : tie.Need-play-lines-requires
 play-lines-requires c κs = search needs
@@ -39,8 +35,7 @@ returns-2 : tie.Need-returns-2
 returns-2 c = let a = c .before .before .before .before .before .before .before .before .before .before .before .before .before .before .before .before .before .before .before .before .before .before .args in
     let o = c .before .before .before .before .before .before .before .before .before .before .before .before .before .before .before .«open» .ensures in
     let l = c .before .before .before .before .before .before .play-lines .ensures in
-    let e = all-lines (a .plan .now) (a .input .now) (a .image .now) (a .store .now) _ _ (o .0) (o .1 .0 .0) (c .before .before .before .before .before .before .before .before .before .before .before .if1 .left) (l .0) in
-    (ap (λ (x : Session). x .memory .image) e, (ap (λ (x : Session). x .memory .store) e, (ap (λ (x : Session). x .printed) e, (ap (λ (x : Session). x .used) e, (l .1 .1, l .1 .0)))))
+    (all-lines (a .plan .now) (a .input .now) (a .image .now) (a .store .now) _ _ (o .0) (o .1 .0 .0) (c .before .before .before .before .before .before .before .before .before .before .if1 .left) (l .0), l .1)
 
 pub play-all-spec : {M : Type 1} → statement M
 play-all-spec =

@@ -1,6 +1,6 @@
 use native.Mathlib.Omega.{arith}
 use Rattle.machine.specs.Sound.{jobIn}
-use Rattle.shown.specs.ShownLaws.{request-shown}
+use Rattle.shown.specs.laws.ShownLaws.{request-shown}
 use borrow.Author.Needs.{needs}
 use Rattle.shown.proofs.area_request.Statement.{statement}
 use Rattle.shown.proofs.area_request.Tie as tie

@@ -1,6 +1,6 @@
 use native.Mathlib.Omega.{arith}
 use Rattle.machine.specs.Sound.{jobIn}
-use Rattle.shown.specs.ShownLaws.{free-shown, locked-shown, runs-shown}
+use Rattle.shown.specs.laws.ShownLaws.{free-shown, locked-shown, runs-shown}
 use borrow.Author.Needs.{needs}
 use Rattle.shown.proofs.device_text.Statement.{statement}
 use Rattle.shown.proofs.device_text.Tie as tie

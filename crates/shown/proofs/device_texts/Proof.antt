@@ -2,11 +2,12 @@ use Prim.Native.Nat.{ℕ, _+_, _-_, _*_, _≤_}
 use mathlib.Core.Path.{_≡_, refl, ap, _∙_}
 use lib.ListN.{length}
 use native.Mathlib.Omega.{arith}
-use Rattle.texts.specs.Appended.{Appended, append-same}
+use Rattle.texts.specs.Appended.{Appended}
+use Rattle.texts.specs.laws.AppendLaws.{append-same}
 use Rattle.machine.specs.Sound.{coreIn}
 use Rattle.rules.specs.Session.{shownTo}
 use Rattle.shown.specs.Shown.{shownTexts}
-use Rattle.shown.specs.ShownLaws.{device-shown, none-shown}
+use Rattle.shown.specs.laws.ShownLaws.{device-shown, none-shown}
 use borrow.Author.Needs.{needs}
 use Rattle.shown.proofs.device_texts.Statement.{statement}
 use Rattle.shown.proofs.device_texts.Tie as tie

@@ -1,5 +1,5 @@
 use native.Mathlib.Omega.{arith}
-use Rattle.shown.specs.ShownLaws.{round-shown}
+use Rattle.shown.specs.laws.ShownLaws.{round-shown}
 use borrow.Author.Needs.{needs}
 use Rattle.shown.proofs.devices_line.Statement.{statement}
 use Rattle.shown.proofs.devices_line.Tie as tie

@@ -1,4 +1,4 @@
-use Rattle.shown.specs.ShownLaws.{start-past}
+use Rattle.shown.specs.laws.ShownLaws.{start-past}
 use borrow.Author.Needs.{needs}
 use Rattle.shown.proofs.start_of.Statement.{statement}
 use Rattle.shown.proofs.start_of.Tie as tie

@@ -1,4 +1,4 @@
-use Rattle.texts.specs.TextLaws.{reached, power-more, power-fits, count-more, count-all}
+use Rattle.texts.specs.laws.TextLaws.{reached, power-more, power-fits, count-more, count-all}
 use Rattle.arith.specs.Bounded.{sum}
 use native.Mathlib.Omega.{arith}
 use mathlib.Core.Path.{_≡_, refl}

@@ -1,5 +1,5 @@
 use native.Mathlib.Omega.{arith}
-use Rattle.texts.specs.TextLaws.{info-shown}
+use Rattle.texts.specs.laws.TextLaws.{info-shown}
 use borrow.Author.Needs.{needs}
 use Rattle.texts.proofs.info_line.Statement.{statement}
 use Rattle.texts.proofs.info_line.Tie as tie

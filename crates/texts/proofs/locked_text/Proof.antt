@@ -1,5 +1,5 @@
 use native.Mathlib.Omega.{arith}
-use Rattle.texts.specs.TextLaws.{two-bytes}
+use Rattle.texts.specs.laws.TextLaws.{two-bytes}
 use borrow.Author.Needs.{needs}
 use Rattle.texts.proofs.locked_text.Statement.{statement}
 use Rattle.texts.proofs.locked_text.Tie as tie

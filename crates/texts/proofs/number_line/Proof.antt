@@ -1,5 +1,5 @@
 use native.Mathlib.Omega.{arith}
-use Rattle.texts.specs.TextLaws.{number-ended}
+use Rattle.texts.specs.laws.TextLaws.{number-ended}
 use borrow.Author.Needs.{needs}
 use Rattle.texts.proofs.number_line.Statement.{statement}
 use Rattle.texts.proofs.number_line.Tie as tie

@@ -1,5 +1,5 @@
 use mathlib.Core.Path.{refl}
-use Rattle.texts.specs.Appended.{append-byte}
+use Rattle.texts.specs.laws.AppendLaws.{append-byte}
 use mathlib.Core.Path.{refl}
 use borrow.Author.Needs.{needs}
 use Rattle.texts.proofs.push.Statement.{statement}

@@ -1,5 +1,5 @@
 use native.Mathlib.Omega.{arith}
-use Rattle.texts.specs.TextLaws.{number-behind}
+use Rattle.texts.specs.laws.TextLaws.{number-behind}
 use borrow.Author.Needs.{needs}
 use Rattle.texts.proofs.push_behind.Statement.{statement}
 use Rattle.texts.proofs.push_behind.Tie as tie

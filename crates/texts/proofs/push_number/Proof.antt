@@ -1,4 +1,4 @@
-use Rattle.texts.specs.TextLaws.{power-first, power-less, power-some, count-few, digits-turn, digits-done}
+use Rattle.texts.specs.laws.TextLaws.{power-first, power-less, power-some, count-few, digits-turn, digits-done}
 use Rattle.texts.specs.Texts.{digitsOf, digitCount, decimal}
 use borrow.Author.Needs.{needs}
 use native.Mathlib.Omega.{arith}

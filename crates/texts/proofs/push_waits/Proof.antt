@@ -1,5 +1,5 @@
 use native.Mathlib.Omega.{arith}
-use Rattle.texts.specs.TextLaws.{four-behind}
+use Rattle.texts.specs.laws.TextLaws.{four-behind}
 use borrow.Author.Needs.{needs}
 use Rattle.texts.proofs.push_waits.Statement.{statement}
 use Rattle.texts.proofs.push_waits.Tie as tie

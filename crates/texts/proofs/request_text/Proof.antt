@@ -1,5 +1,5 @@
 use native.Mathlib.Omega.{arith}
-use Rattle.texts.specs.TextLaws.{request-shown}
+use Rattle.texts.specs.laws.TextLaws.{request-shown}
 use borrow.Author.Needs.{needs}
 use Rattle.texts.proofs.request_text.Statement.{statement}
 use Rattle.texts.proofs.request_text.Tie as tie

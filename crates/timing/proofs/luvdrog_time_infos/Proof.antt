@@ -47,7 +47,7 @@ loop-again c =
     let here = c .before .before .before .before .before .loop in
     let asked = c .before .before .before .job-info .ensures in (
       omega arith,
-      rw (total-more, repeated-query, ← (here .inv .1)) (ap (λ info. here .sum + info .task .length) (asked .1)),
+      rw (total-more, repeated-query, ← (here .inv .1)) (ap (λ info. here .sum + info .task .length) (asked .1 .0)),
       omega arith,
     )
 

@@ -8,22 +8,22 @@ use Rattle.transfer.proofs.read_part.Statement.{statement}
 use Rattle.transfer.proofs.read_part.Tie as tie
 use Rattle.transfer.proofs.read_part.Reads as reads
 use Rattle.transfer.proofs.read_part.Lts as lts
-use Rattle.transfer.proofs.copy_to.Reads as copy-to-reads
+use Rattle.transfer.proofs.write_part.Reads as write-part-reads
 
 add-e : tie.Need-add-e
 add-e c = search needs
 
-sub-copy-to : tie.Need-sub-copy-to
-sub-copy-to c = search needs
+sub-write-part : tie.Need-sub-write-part
+sub-write-part c = search needs
 
-part-copy-to-start : tie.Need-part-copy-to-start
-part-copy-to-start c = search needs
+part-write-part-start : tie.Need-part-write-part-start
+part-write-part-start c = search needs
 
-part-copy-to-end : tie.Need-part-copy-to-end
-part-copy-to-end c = search needs
+part-write-part-end : tie.Need-part-write-part-end
+part-write-part-end c = search needs
 
-copy-to-requires : tie.Need-copy-to-requires
-copy-to-requires c κs = search needs
+write-part-requires : tie.Need-write-part-requires
+write-part-requires c κs = search needs
 
 same-length : tie.Need-same-length
 same-length c = search needs
@@ -31,16 +31,16 @@ same-length c = search needs
 returns : tie.Need-returns
 returns c =
     let a = c .before .before .before .before .before .before .before .args in
-    c .before .before .copy-to .ensures ∙ ap (λ (w : List ℕ). put (a .q) w (a .store .now)) (part-is (a .p) (a .n) (a .image .now))
+    c .before .before .write-part .ensures ∙ ap (λ (w : List ℕ). put (a .q) w (a .store .now)) (part-is (a .p) (a .n) (a .image .now))
 
 pub read-part-spec : {M : Type 1} → statement M
 read-part-spec =
     tie.close
     (tie.spec
     add-e
-    sub-copy-to
-    part-copy-to-start
-    part-copy-to-end
-    copy-to-requires
+    sub-write-part
+    part-write-part-start
+    part-write-part-end
+    write-part-requires
     same-length
     returns)

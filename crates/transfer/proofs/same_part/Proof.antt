@@ -1,5 +1,6 @@
-use mathlib.Core.Path.{sym, _∙_}
+use mathlib.Core.Path.{_∙_}
 use native.Mathlib.Omega.{arith}
+use lib.ListN.{length}
 use borrow.Author.Needs.{needs}
 use Rattle.transfer.specs.PartLaws.{length-lent, same-parts}
 use Rattle.transfer.proofs.same_part.Statement.{statement}
@@ -7,13 +8,9 @@ use Rattle.transfer.proofs.same_part.Tie as tie
 use Rattle.transfer.proofs.same_part.Reads as reads
 use Rattle.transfer.proofs.same_part.Lts as lts
 use Rattle.transfer.proofs.same_all.Reads as same-all-reads
-use Rattle.transfer.proofs.window_part.Reads as window-part-reads
 
 add-e : tie.Need-add-e
 add-e c = search needs
-
-window-part-requires : tie.Need-window-part-requires
-window-part-requires c κs = search needs
 
 sub-same-all : tie.Need-sub-same-all
 sub-same-all c = search needs
@@ -26,20 +23,19 @@ part-same-all-end c = search needs
 
 same-all-requires : tie.Need-same-all-requires
 same-all-requires c κs =
-    let a = c .before .before .before .before .args in
-    length-lent (a .image .now) (a .p) (a .n) (omega arith) ∙ sym (c .before .window-part .ensures .1)
+    let a = c .before .before .before .args in
+    length-lent (a .image .now) (a .p) (length (a .window .now)) (omega arith)
 
 returns : tie.Need-returns
 returns c =
-    let a = c .before .before .before .before .before .args in
-    c .same-all .ensures ∙ same-parts (a .image .now) (a .p) (a .n) (omega arith) (a .store .now) _ (a .q) (c .before .before .window-part .ensures .0)
+    let a = c .before .before .before .before .args in
+    c .same-all .ensures ∙ same-parts (a .image .now) (a .p) (length (a .window .now)) (omega arith) (a .window .now)
 
 pub same-part-spec : {M : Type 1} → statement M
 same-part-spec =
     tie.close
     (tie.spec
     add-e
-    window-part-requires
     sub-same-all
     part-same-all-start
     part-same-all-end

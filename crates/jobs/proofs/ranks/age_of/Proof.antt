@@ -1,5 +1,5 @@
 use native.Mathlib.Omega.{arith}
-use Rattle.state.specs.Ages.{age-at, age-past}
+use Rattle.state.specs.laws.AgesLaws.{age-at, age-past}
 use borrow.Author.Needs.{needs}
 use Rattle.jobs.proofs.ranks.age_of.Statement.{statement}
 use Rattle.jobs.proofs.ranks.age_of.Tie as tie

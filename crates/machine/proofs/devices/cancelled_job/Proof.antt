@@ -1,7 +1,7 @@
 use mathlib.Core.Bool.{true, false}
 use mathlib.Core.Path.{sym, _∙_}
 use Rattle.rules.specs.Layout.{layoutOf}
-use Rattle.machine.specs.DeviceLaws.{cancel-job}
+use Rattle.machine.specs.laws.DeviceLaws.{cancel-job}
 use Rattle.machine.specs.Sound.{coreIn}
 use borrow.Author.Needs.{needs}
 use Rattle.machine.proofs.devices.cancelled_job.Statement.{statement}

@@ -1,6 +1,6 @@
 use mathlib.Core.Path.{sym, _∙_}
 use native.Mathlib.Omega.{arith}
-use Rattle.machine.specs.Arrays.{device-past}
+use Rattle.machine.specs.laws.Arrays.{device-past}
 use borrow.Author.Needs.{needs}
 use Rattle.machine.proofs.devices.device_on.Statement.{statement}
 use Rattle.machine.proofs.devices.device_on.Tie as tie

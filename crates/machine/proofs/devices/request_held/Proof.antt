@@ -1,5 +1,5 @@
 use mathlib.Core.Path.{_∙_}
-use Rattle.machine.specs.DeviceLaws.{area-held}
+use Rattle.machine.specs.laws.DeviceLaws.{area-held}
 use borrow.Author.Needs.{needs}
 use Rattle.machine.proofs.devices.request_held.Statement.{statement}
 use Rattle.machine.proofs.devices.request_held.Tie as tie

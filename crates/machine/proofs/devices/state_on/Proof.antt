@@ -1,6 +1,6 @@
 use mathlib.Core.Path.{sym}
 use native.Mathlib.Omega.{arith}
-use Rattle.machine.specs.Arrays.{state-past}
+use Rattle.machine.specs.laws.Arrays.{state-past}
 use borrow.Author.Needs.{needs}
 use Rattle.machine.proofs.devices.state_on.Statement.{statement}
 use Rattle.machine.proofs.devices.state_on.Tie as tie

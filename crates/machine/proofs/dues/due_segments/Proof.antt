@@ -6,7 +6,7 @@ use mathlib.Core.Path.{_≡_, sym, ap, _∙_}
 use native.Mathlib.Omega.{arith}
 use Rattle.segment.specs.Segments.{noSegment}
 use Rattle.arith.specs.Tables.{table, table-more}
-use Rattle.machine.specs.Dues.{dueOf, duesOf, due-index, due-inside, due-turn}
+use Rattle.machine.specs.laws.Dues.{dueOf, duesOf, due-index, due-inside, due-turn}
 use borrow.Author.Needs.{needs}
 use Rattle.machine.proofs.dues.due_segments.Statement.{statement}
 use Rattle.machine.proofs.dues.due_segments.Tie as tie

@@ -14,15 +14,6 @@ is-pending-requires c κs = search needs
 returns : tie.Need-returns
 returns c = simp (sym (c .before .is-pending .ensures) ∙ not-true _ (c .if1 .taken))
 
-cast-address : tie.Need-cast-address
-cast-address c = search needs
-
-cast-address-2 : tie.Need-cast-address-2
-cast-address-2 c = search needs
-
-add-address : tie.Need-add-address
-add-address c = search needs
-
 locate-requires : tie.Need-locate-requires
 locate-requires c κs = search needs
 
@@ -35,8 +26,5 @@ locate-due-spec =
     (tie.spec
     is-pending-requires
     returns
-    cast-address
-    cast-address-2
-    add-address
     locate-requires
     returns-2)

@@ -1,4 +1,4 @@
-use Rattle.machine.specs.Dues.{fitsIn, state-turn}
+use Rattle.machine.specs.laws.Dues.{fitsIn, state-turn}
 use mathlib.Core.Bool.{true}
 use Prim.Native.Nat.{_-_, _≤_}
 use mathlib.Core.Path.{_≡_, refl, sym, ap, _∙_}

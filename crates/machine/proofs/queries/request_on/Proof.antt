@@ -1,5 +1,5 @@
 use mathlib.Core.Path.{_∙_}
-use Rattle.machine.specs.QueryLaws.{request-own, request-other}
+use Rattle.machine.specs.laws.QueryLaws.{request-own, request-other}
 use borrow.Author.Needs.{needs}
 use Rattle.machine.proofs.queries.request_on.Statement.{statement}
 use Rattle.machine.proofs.queries.request_on.Tie as tie

@@ -1,5 +1,5 @@
 use mathlib.Core.Path.{_∙_}
-use Rattle.machine.specs.DeviceLaws.{request-of}
+use Rattle.machine.specs.laws.DeviceLaws.{request-of}
 use borrow.Author.Needs.{needs}
 use Rattle.machine.proofs.queries.running_request.Statement.{statement}
 use Rattle.machine.proofs.queries.running_request.Tie as tie

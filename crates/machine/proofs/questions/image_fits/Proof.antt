@@ -1,4 +1,4 @@
-use Rattle.machine.specs.QuestionLaws.{image-fits}
+use Rattle.machine.specs.laws.QuestionLaws.{image-fits}
 use borrow.Author.Needs.{needs}
 use Rattle.machine.proofs.questions.image_fits.Statement.{statement}
 use Rattle.machine.proofs.questions.image_fits.Tie as tie

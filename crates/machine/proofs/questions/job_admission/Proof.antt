@@ -1,4 +1,4 @@
-use Rattle.machine.specs.QuestionLaws.{jobsAlone, job-unsound, job-unknown, job-busy, job-number}
+use Rattle.machine.specs.laws.QuestionLaws.{jobsAlone, job-unsound, job-unknown, job-busy, job-number}
 use Rattle.admission.specs.AdmissionLaws.{refuses}
 use native.Mathlib.Omega.{arith}
 use mathlib.Core.Path.{sym, _∙_}

@@ -1,9 +1,10 @@
 use mathlib.Core.Bool.{false≢true}
 use borrow.Author.Tests.{not-true, not-false}
 use mathlib.Core.Path.{sym, subst, _∙_}
-use Rattle.machine.specs.Dues.{Due, dues-found}
-use Rattle.machine.specs.Sound.{other-counts, jobIn, counts-few}
-use Rattle.machine.specs.QuestionLaws.{round-unsound}
+use Rattle.machine.specs.laws.Dues.{Due, dues-found}
+use Rattle.machine.specs.Sound.{jobIn}
+use Rattle.machine.specs.laws.SoundCases.{other-counts, counts-few}
+use Rattle.machine.specs.laws.QuestionLaws.{round-unsound}
 use borrow.Author.Needs.{needs}
 use Rattle.machine.proofs.questions.round_admission.Statement.{statement}
 use Rattle.machine.proofs.questions.round_admission.Tie as tie

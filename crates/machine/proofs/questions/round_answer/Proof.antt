@@ -1,8 +1,8 @@
 use borrow.Author.Tests.{not-true, not-false}
 use mathlib.Core.Path.{sym, _∙_}
-use Rattle.machine.specs.Sound.{counts-few}
-use Rattle.machine.specs.Dues.{fits-decide}
-use Rattle.machine.specs.QuestionLaws.{round-unsound, round-image, round-store, round-accepted}
+use Rattle.machine.specs.laws.SoundCases.{counts-few}
+use Rattle.machine.specs.laws.Dues.{fits-decide}
+use Rattle.machine.specs.laws.QuestionLaws.{round-unsound, round-image, round-store, round-accepted}
 use Rattle.machine.proofs.questions.round_answer.Statement.{statement}
 use Rattle.machine.proofs.questions.round_answer.Tie as tie
 use Rattle.machine.proofs.questions.round_answer.Reads as reads

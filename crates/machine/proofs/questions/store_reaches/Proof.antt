@@ -1,4 +1,4 @@
-use Rattle.machine.specs.QuestionLaws.{window-reached, window-missed}
+use Rattle.machine.specs.laws.QuestionLaws.{window-reached, window-missed}
 use Rattle.rules.specs.Admission.{storeReaches}
 use Rattle.plan.specs.Questions.{areaOf, windowEnd}
 use Rattle.arith.specs.Bounded.{every, every-fails, every-more}

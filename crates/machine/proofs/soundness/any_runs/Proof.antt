@@ -1,5 +1,5 @@
 use Rattle.machine.specs.Sound.{stateIn}
-use Rattle.machine.specs.Dues.{isRunning}
+use Rattle.machine.specs.laws.Dues.{isRunning}
 use Rattle.arith.specs.Bounded.{some, some-intro, some-none}
 use mathlib.Core.Bool.{false}
 use mathlib.Core.Path.{_≡_, refl, sym, ap, _∙_}

@@ -1,5 +1,5 @@
 use Rattle.machine.specs.Sound.{stateSound, jobIn, stateIn}
-use Rattle.machine.specs.Dues.{running-decides}
+use Rattle.machine.specs.laws.Dues.{running-decides}
 use mathlib.Core.Bool.{true}
 use Prim.Native.Nat.{_-_, _≤_}
 use mathlib.Core.Path.{_≡_, refl, sym, ap, _∙_}

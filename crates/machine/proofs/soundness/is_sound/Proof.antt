@@ -1,5 +1,5 @@
-use Rattle.machine.specs.Dues.{none-runs}
-use Rattle.machine.specs.Sound.{other-counts, devices-decide, counts-few}
+use Rattle.machine.specs.laws.Dues.{none-runs}
+use Rattle.machine.specs.laws.SoundCases.{other-counts, devices-decide, counts-few}
 use borrow.Author.Tests.{not-true, not-false}
 use mathlib.Core.Path.{sym, _∙_}
 use borrow.Author.Needs.{needs}

@@ -1,6 +1,6 @@
 use mathlib.Core.Path.{sym, _∙_}
 use native.Mathlib.Omega.{arith}
-use Rattle.machine.specs.Sound.{other-device, past-image, past-job, no-window, window-decides}
+use Rattle.machine.specs.laws.SoundCases.{other-device, past-image, past-job, no-window, window-decides}
 use borrow.Author.Tests.{not-true, not-false}
 use borrow.Author.Needs.{needs}
 use Rattle.machine.proofs.soundness.segment_fits.Statement.{statement}

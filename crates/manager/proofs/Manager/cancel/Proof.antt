@@ -1,7 +1,7 @@
 use Rattle.rounds.specs.Close.{waitsIn}
 use Rattle.manager.specs.Calls.{withArea}
-use Rattle.manager.specs.CallLaws.{refused-some, cancel-number, cancel-few, cancel-refused, cancel-accepted}
-use Rattle.machine.specs.Sound.{sound-few}
+use Rattle.manager.specs.laws.CallLaws.{refused-some, cancel-number, cancel-few, cancel-refused, cancel-accepted}
+use Rattle.machine.specs.laws.SoundCases.{sound-few}
 use Rattle.memory.specs.Numbers.{admissionNumber}
 use mathlib.Core.Path.{sym, ap, _∙_}
 use borrow.Author.Needs.{needs}

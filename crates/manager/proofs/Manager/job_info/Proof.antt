@@ -1,6 +1,6 @@
 use mathlib.Core.Path.{sym, ap, _∙_}
 use Rattle.memory.specs.Numbers.{admissionNumber}
-use Rattle.manager.specs.CallLaws.{refused-some, info-few, info-refused, info-accepted}
+use Rattle.manager.specs.laws.CallLaws.{refused-some, info-few, info-refused, info-accepted, info-type}
 use borrow.Author.Needs.{needs}
 use Rattle.manager.proofs.Manager.job_info.Statement.{statement}
 use Rattle.manager.proofs.Manager.job_info.Tie as tie
@@ -26,10 +26,14 @@ job-info-requires : tie.Need-job-info-requires
 job-info-requires c κs = info-few (c .before .before .before .before .before .before .args .self) (c .before .before .before .before .before .before .args .area) (sym (c .before .before .before .before .before .query-admission .ensures) ∙ ap admissionNumber (c .before .before .before .enum-told2 .given .1))
 
 returns : tie.Need-returns
-returns c = (c .before .before .before .query-admission .ensures, c .no-job-info .ensures ∙ info-refused (c .before .before .before .before .args .self) (c .before .before .before .before .args .area) (refused-some _ _ (c .before .enum-told .given .1) _ (c .before .before .before .query-admission .ensures)))
+returns c =
+    let is = c .no-job-info .ensures ∙ info-refused (c .before .before .before .before .args .self) (c .before .before .before .before .args .area) (refused-some _ _ (c .before .enum-told .given .1) _ (c .before .before .before .query-admission .ensures)) in
+    (c .before .before .before .query-admission .ensures, (is, info-type _ _ _ is))
 
 returns-2 : tie.Need-returns-2
-returns-2 c = (c .before .before .before .before .before .before .query-admission .ensures, c .job-info .ensures ∙ info-accepted (c .before .before .before .before .before .before .before .args .self) (c .before .before .before .before .before .before .before .args .area) (sym (c .before .before .before .before .before .before .query-admission .ensures) ∙ ap admissionNumber (c .before .before .before .before .enum-told2 .given .1)))
+returns-2 c =
+    let is = c .job-info .ensures ∙ info-accepted (c .before .before .before .before .before .before .before .args .self) (c .before .before .before .before .before .before .before .args .area) (sym (c .before .before .before .before .before .before .query-admission .ensures) ∙ ap admissionNumber (c .before .before .before .before .enum-told2 .given .1)) in
+    (c .before .before .before .before .before .before .query-admission .ensures, (is, info-type _ _ _ is))
 
 pub job-info-spec : {M : Type 1} → statement M
 job-info-spec =

@@ -1,8 +1,9 @@
 use mathlib.Core.Path.{sym, ap, _∙_}
 use borrow.Author.Tests.{eq-eqb}
 use lib.ListN.{replicate}
-use Rattle.manager.specs.CallLaws.{refused-some}
-use Rattle.manager.specs.Load.{freshManager, accepted-loaded, refused-loaded}
+use Rattle.manager.specs.laws.CallLaws.{refused-some}
+use Rattle.manager.specs.Load.{freshManager}
+use Rattle.manager.specs.laws.LoadLaws.{accepted-loaded, refused-loaded}
 use Rattle.memory.specs.Numbers.{admissionNumber}
 use Rattle.state.specs.Ages.{firstAges}
 use borrow.Author.Needs.{needs}

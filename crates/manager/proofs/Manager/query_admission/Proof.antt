@@ -1,4 +1,4 @@
-use Rattle.manager.specs.CallLaws.{info-number}
+use Rattle.manager.specs.laws.CallLaws.{info-number}
 use borrow.Author.Needs.{needs}
 use Rattle.manager.proofs.Manager.query_admission.Statement.{statement}
 use Rattle.manager.proofs.Manager.query_admission.Tie as tie

@@ -1,7 +1,7 @@
 use lib.ListN.{length, length-map}
 use native.Mathlib.Omega.{arith}
-use Rattle.manager.specs.CallLaws.{refused-some, release-number, release-few, release-known, release-refused, release-accepted}
-use Rattle.machine.specs.Sound.{sound-few}
+use Rattle.manager.specs.laws.CallLaws.{refused-some, release-number, release-few, release-known, release-refused, release-accepted}
+use Rattle.machine.specs.laws.SoundCases.{sound-few}
 use Rattle.memory.specs.Numbers.{admissionNumber}
 use mathlib.Core.Path.{sym, ap, _∙_, _≡_}
 use borrow.Author.Needs.{needs}

@@ -2,7 +2,7 @@ use mathlib.Core.Path.{sym, ap, _∙_}
 use Rattle.memory.specs.Numbers.{admissionNumber}
 use Rattle.requests.specs.Effects.{memoryOf}
 use Rattle.manager.specs.Calls.{roundNumberOf}
-use Rattle.manager.specs.CallLaws.{refused-some, round-asked, round-refused, round-accepted, round-memory-refused, round-memory-accepted}
+use Rattle.manager.specs.laws.CallLaws.{refused-some, round-asked, round-refused, round-accepted, round-memory-refused, round-memory-accepted}
 use borrow.Author.Needs.{needs}
 use Rattle.manager.proofs.Manager.round.Statement.{statement}
 use Rattle.manager.proofs.Manager.round.Tie as tie

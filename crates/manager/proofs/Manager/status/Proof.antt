@@ -1,6 +1,6 @@
 use mathlib.Core.Path.{sym, ap, _∙_}
 use Rattle.memory.specs.Numbers.{admissionNumber}
-use Rattle.manager.specs.CallLaws.{refused-some, info-few, status-refused, status-accepted}
+use Rattle.manager.specs.laws.CallLaws.{refused-some, info-few, status-refused, status-accepted}
 use borrow.Author.Needs.{needs}
 use Rattle.manager.proofs.Manager.status.Statement.{statement}
 use Rattle.manager.proofs.Manager.status.Tie as tie

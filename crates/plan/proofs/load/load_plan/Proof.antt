@@ -1,9 +1,10 @@
-use Rattle.memory.specs.Numbers.{admissionNumber, refusal-some}
+use Rattle.memory.specs.Numbers.{admissionNumber}
+use Rattle.memory.specs.laws.NumberLaws.{refusal-some}
 use mathlib.Core.Path.{sym, ap, _∙_}
 use native.Mathlib.Omega.{arith}
 use borrow.Author.Tests.{not-true, not-false}
-use Rattle.plan.specs.LoadLaws.{not-whole, too-many, read-counts, few-enough, kept, not-kept}
-use Rattle.plan.specs.SizeLaws.{counts}
+use Rattle.plan.specs.laws.LoadLaws.{not-whole, too-many, read-counts, few-enough, kept, not-kept}
+use Rattle.plan.specs.laws.SizeLaws.{counts}
 use borrow.Author.Needs.{needs}
 use Rattle.plan.proofs.load.load_plan.Statement.{statement}
 use Rattle.plan.proofs.load.load_plan.Tie as tie

@@ -3,7 +3,8 @@ use mathlib.Core.Path.{_≡_}
 use native.Mathlib.Omega.{arith}
 use native.Mathlib.Nat.{sub-zero, add-zero}
 use borrow.Author.Needs.{needs}
-use Rattle.plan.specs.Number.{numberAt, number-none, number-more, power-none, power-more, power-seven}
+use Rattle.plan.specs.Number.{numberAt}
+use Rattle.plan.specs.laws.NumberLaws.{number-none, number-more, power-none, power-more, power-seven}
 use Rattle.plan.proofs.number.number_at.Statement.{statement}
 use Rattle.plan.proofs.number.number_at.Tie as tie
 use Rattle.plan.proofs.number.number_at.Reads as reads

@@ -4,7 +4,7 @@ use native.Mathlib.Omega.{arith}
 use borrow.Author.Needs.{needs}
 use Rattle.arith.specs.Bounded.{sum}
 use Rattle.plan.specs.Questions.{subAreaOf, areaSize}
-use Rattle.plan.specs.SizeLaws.{size-in-few, size-more}
+use Rattle.plan.specs.laws.SizeLaws.{size-in-few, size-more}
 use Rattle.plan.proofs.questions.area_size.Statement.{statement}
 use Rattle.plan.proofs.questions.area_size.Tie as tie
 use Rattle.plan.proofs.questions.area_size.Reads as reads

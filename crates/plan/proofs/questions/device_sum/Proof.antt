@@ -3,7 +3,7 @@ use mathlib.Core.Path.{_≡_, refl, ap, _∙_}
 use native.Mathlib.Omega.{arith}
 use borrow.Author.Needs.{needs}
 use Rattle.plan.specs.Questions.{lengthSum}
-use Rattle.plan.specs.SizeLaws.{length-more}
+use Rattle.plan.specs.laws.SizeLaws.{length-more}
 use Rattle.plan.proofs.questions.device_sum.Statement.{statement}
 use Rattle.plan.proofs.questions.device_sum.Tie as tie
 use Rattle.plan.proofs.questions.device_sum.Reads as reads

@@ -6,7 +6,7 @@ use borrow.Author.Needs.{needs}
 use borrow.Author.Tests.{not-true, not-false}
 use Rattle.arith.specs.Bounded.{every, every-fails, every-more}
 use Rattle.plan.specs.Questions.{deviceOf, deviceDue, deviceJoins, lengthSum, devicesJoin}
-use Rattle.plan.specs.SizeLaws.{due-more, length-more}
+use Rattle.plan.specs.laws.SizeLaws.{due-more, length-more}
 use Rattle.plan.proofs.questions.devices_join.Statement.{statement}
 use Rattle.plan.proofs.questions.devices_join.Tie as tie
 use Rattle.plan.proofs.questions.devices_join.Reads as reads

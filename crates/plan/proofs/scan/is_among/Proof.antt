@@ -1,6 +1,6 @@
 use borrow.Author.Tests.{eq-eqb, ne-eqb}
 use Rattle.arith.specs.Bounded.{some}
-use Rattle.plan.specs.RecordLaws.{among-last}
+use Rattle.plan.specs.laws.RecordLaws.{among-last}
 use borrow.Author.Needs.{needs}
 use Rattle.plan.proofs.scan.is_among.Statement.{statement}
 use Rattle.plan.proofs.scan.is_among.Tie as tie

@@ -1,6 +1,6 @@
 use borrow.Author.Tests.{le-leb, lt-leb, ne-eqb}
 use Rattle.plan.specs.Records.{isRecord}
-use Rattle.plan.specs.RecordLaws.{record-second}
+use Rattle.plan.specs.laws.RecordLaws.{record-second}
 use lib.ListN.{length}
 use native.Mathlib.Omega.{arith}
 use Prim.Native.Nat.{_+_}

@@ -1,4 +1,4 @@
-use Rattle.plan.specs.RecordLaws.{layout-is}
+use Rattle.plan.specs.laws.RecordLaws.{layout-is}
 use borrow.Author.Needs.{needs}
 use Rattle.plan.proofs.scan.record_layout.Statement.{statement}
 use Rattle.plan.proofs.scan.record_layout.Tie as tie

@@ -6,7 +6,7 @@ use native.Mathlib.Numerals.{add-one}
 use borrow.Author.Needs.{needs}
 use lib.ListN.{length}
 use Rattle.plan.specs.Records.{recordsUpTo, recordsFrom}
-use Rattle.plan.specs.RecordLaws.{record-fits, run-more, run-end}
+use Rattle.plan.specs.laws.RecordLaws.{record-fits, run-more, run-end}
 use Rattle.plan.proofs.scan.run_from.Statement.{statement}
 use Rattle.plan.proofs.scan.run_from.Tie as tie
 use Rattle.plan.proofs.scan.run_from.Reads as reads

@@ -7,7 +7,7 @@ use Rattle.requests.proofs.effects.finish.Lts as lts
 use Rattle.transfer.proofs.blank_part.Reads as blank-part-reads
 use Rattle.transfer.proofs.erase_part.Reads as erase-part-reads
 use Rattle.transfer.proofs.read_part.Reads as read-part-reads
-use Rattle.transfer.proofs.same_part.Reads as same-part-reads
+use Rattle.requests.proofs.effects.compare_on.Reads as compare-on-reads
 use Rattle.requests.proofs.effects.write_on.Reads as write-on-reads
 
 enum-told : tie.Need-enum-told
@@ -31,8 +31,8 @@ erase-part-requires c κs = search needs
 enum-told-4 : tie.Need-enum-told-4
 enum-told-4 c = search needs
 
-same-part-requires : tie.Need-same-part-requires
-same-part-requires c κs = let h = simp (c .before .before .enum-told4 .given .1) at (c .before .before .before .before .before .before .pre .1) in (omega arith, omega (arith, h))
+compare-on-requires : tie.Need-compare-on-requires
+compare-on-requires c κs = let h = simp (c .before .before .enum-told4 .given .1) at (c .before .before .before .before .before .before .pre .1) in (omega arith, omega (arith, h))
 
 enum-told-5 : tie.Need-enum-told-5
 enum-told-5 c = search needs
@@ -77,7 +77,7 @@ same-length-7 : tie.Need-same-length-7
 same-length-7 c = search needs
 
 returns-4 : tie.Need-returns-4
-returns-4 c = (simp (← (c .same-part .ensures), c .before .before .before .enum-told4 .given .1), (simp (← (c .same-part .ensures), c .before .before .before .enum-told4 .given .1), simp (← (c .same-part .ensures), c .before .before .before .enum-told4 .given .1)))
+returns-4 c = (simp (← (c .compare-on .ensures), c .before .before .before .enum-told4 .given .1), (simp (← (c .compare-on .ensures), c .before .before .before .enum-told4 .given .1), simp (← (c .compare-on .ensures), c .before .before .before .enum-told4 .given .1)))
 
 same-length-8 : tie.Need-same-length-8
 same-length-8 c = search needs
@@ -102,7 +102,7 @@ finish-spec =
     enum-told-3
     erase-part-requires
     enum-told-4
-    same-part-requires
+    compare-on-requires
     enum-told-5
     blank-part-requires
     enum-told-6

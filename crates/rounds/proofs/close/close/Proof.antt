@@ -1,6 +1,6 @@
 use mathlib.Core.List.{[]}
-use Rattle.rounds.specs.Picks.{needsLayout}
-use Rattle.rounds.specs.CloseLaws.{close-turn}
+use Rattle.rounds.specs.laws.Picks.{needsLayout}
+use Rattle.rounds.specs.laws.CloseLaws.{close-turn}
 use Rattle.rounds.specs.Close.{areaAfter, areasAfter}
 use Rattle.state.specs.Fresh.{freshArea}
 use Rattle.machine.specs.Sound.{coreIn}

@@ -1,4 +1,4 @@
-use Rattle.rounds.specs.CloseLaws.{no-priority}
+use Rattle.rounds.specs.laws.CloseLaws.{no-priority}
 use borrow.Author.Needs.{needs}
 use Rattle.rounds.proofs.close.priority_of.Statement.{statement}
 use Rattle.rounds.proofs.close.priority_of.Tie as tie

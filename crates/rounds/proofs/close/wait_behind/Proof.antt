@@ -1,5 +1,5 @@
 use mathlib.Core.Path.{sym, _∙_}
-use Rattle.rounds.specs.CloseLaws.{behind-own, behind-above, behind-below}
+use Rattle.rounds.specs.laws.CloseLaws.{behind-own, behind-above, behind-below}
 use borrow.Author.Needs.{needs}
 use Rattle.rounds.proofs.close.wait_behind.Statement.{statement}
 use Rattle.rounds.proofs.close.wait_behind.Tie as tie

@@ -1,8 +1,8 @@
 use mathlib.Core.Path.{ap, _∙_, sym}
 use lib.ListN.{length-map}
 use Rattle.requests.specs.Effects.{memoryOf}
-use Rattle.rounds.specs.NeedLaws.{whole-areas, whole-devices, whole-memory}
-use Rattle.machine.specs.Sound.{sound-counts}
+use Rattle.rounds.specs.laws.NeedLaws.{whole-areas, whole-devices, whole-memory}
+use Rattle.machine.specs.laws.SoundCases.{sound-counts}
 use borrow.Author.Needs.{needs}
 use Rattle.rounds.proofs.halves.run_round.Statement.{statement}
 use Rattle.rounds.proofs.halves.run_round.Tie as tie

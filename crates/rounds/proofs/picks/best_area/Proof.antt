@@ -1,4 +1,4 @@
-use Rattle.rounds.specs.Picks.{bestTo, readyIn, best-turn}
+use Rattle.rounds.specs.laws.Picks.{bestTo, readyIn, best-turn}
 use native.Mathlib.Omega.{arith}
 use mathlib.Core.Path.{_≡_, refl, ap, _∙_}
 use Prim.Native.Nat.{_-_, _≤_}

@@ -4,7 +4,7 @@ use native.Mathlib.Omega.{arith}
 use lib.ListN.{getD, set}
 use Rattle.segment.specs.Segments.{noSegment}
 use Rattle.arith.specs.Tables.{table, table-more}
-use Rattle.rounds.specs.Picks.{needsOf}
+use Rattle.rounds.specs.laws.Picks.{needsOf}
 use borrow.Author.Needs.{needs}
 use Rattle.rounds.proofs.picks.needed_devices.Statement.{statement}
 use Rattle.rounds.proofs.picks.needed_devices.Tie as tie

@@ -4,8 +4,8 @@ use native.Mathlib.Omega.{arith}
 use lib.ListN.{length, length-set}
 use Rattle.machine.specs.Sound.{jobIn, deviceIn, stateIn, coreIn}
 use Rattle.plan.specs.Questions.{deviceOf}
-use Rattle.rounds.specs.PickLaws.{start-turn, second-turn}
-use Rattle.rounds.specs.Picks.{slotOf, needsLayout}
+use Rattle.rounds.specs.laws.PickLaws.{start-turn, second-turn}
+use Rattle.rounds.specs.laws.Picks.{slotOf, needsLayout}
 use Rattle.rules.specs.Machine.{secondHalf}
 use borrow.Author.Needs.{needs}
 use Rattle.rounds.proofs.picks.second_half.Statement.{statement}

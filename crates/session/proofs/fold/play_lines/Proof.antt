@@ -2,9 +2,10 @@ use Prim.Native.Nat.{_+_, _-_, _≤_}
 use mathlib.Core.Path.{_≡_, refl, sym, ap, _∙_}
 use lib.ListN.{length}
 use native.Mathlib.Omega.{arith}
-use Rattle.lines.specs.Fields.{cutFrom, word, fields-all, more-fields, no-fields}
+use Rattle.lines.specs.Fields.{cutFrom}
+use Rattle.lines.specs.laws.FieldLaws.{word, fields-all, more-fields, no-fields}
 use Rattle.session.specs.Fold.{playedLines, playedInput}
-use Rattle.session.specs.FoldLaws.{sessionOf, played-more, lines-full, lines-last, lines-more, word-length}
+use Rattle.session.specs.laws.FoldLaws.{sessionOf, played-more, lines-full, lines-last, lines-more, word-length}
 use borrow.Author.Needs.{needs}
 use Rattle.session.proofs.fold.play_lines.Statement.{statement}
 use Rattle.session.proofs.fold.play_lines.Tie as tie

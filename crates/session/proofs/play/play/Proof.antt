@@ -1,6 +1,6 @@
 use native.Mathlib.Omega.{arith}
 use Rattle.requests.specs.Effects.{memoryOf}
-use Rattle.session.specs.PlayLaws.{unreadable-done, call-done, info-done, round-done, line-done}
+use Rattle.session.specs.laws.PlayLaws.{unreadable-done, call-done, info-done, round-done, line-done}
 use borrow.Author.Needs.{needs}
 use Rattle.session.proofs.play.play.Statement.{statement}
 use Rattle.session.proofs.play.play.Tie as tie

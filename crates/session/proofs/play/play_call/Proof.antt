@@ -1,7 +1,7 @@
 use native.Mathlib.Omega.{arith}
 use mathlib.Core.Path.{_∙_}
 use Rattle.session.specs.Play.{afterCall}
-use Rattle.session.specs.PlayLaws.{kept-played, call-keeps, number-same}
+use Rattle.session.specs.laws.PlayLaws.{kept-played, call-keeps, number-same}
 use borrow.Author.Needs.{needs}
 use Rattle.session.proofs.play.play_call.Statement.{statement}
 use Rattle.session.proofs.play.play_call.Tie as tie

@@ -1,7 +1,7 @@
 use native.Mathlib.Omega.{arith}
 use mathlib.Core.Path.{_∙_}
 use Rattle.manager.specs.Calls.{infoNumberOf, infoOf}
-use Rattle.session.specs.PlayLaws.{info-refused, info-accepted}
+use Rattle.session.specs.laws.PlayLaws.{info-refused, info-accepted}
 use borrow.Author.Needs.{needs}
 use Rattle.session.proofs.play.play_info.Statement.{statement}
 use Rattle.session.proofs.play.play_info.Tie as tie
@@ -28,7 +28,7 @@ same-length : tie.Need-same-length
 same-length c = search needs
 
 returns : tie.Need-returns
-returns c = (info-refused (infoNumberOf (c .before .before .before .before .before .before .before .before .args .manager) (c .before .before .before .before .before .before .before .before .args .area)) _ (c .before .before .before .before .before .number .ensures ∙ c .before .before .before .before .before .before .job-info .ensures .0) _ (infoOf (c .before .before .before .before .before .before .before .before .args .manager) (c .before .before .before .before .before .before .before .before .args .area)) (c .before .before .before .before .before .before .job-info .ensures .1) (c .before .before .before .before .if1 .taken) (c .before .before .number-line .ensures .0), omega arith)
+returns c = (info-refused (infoNumberOf (c .before .before .before .before .before .before .before .before .args .manager) (c .before .before .before .before .before .before .before .before .args .area)) _ (c .before .before .before .before .before .number .ensures ∙ c .before .before .before .before .before .before .job-info .ensures .0) _ (infoOf (c .before .before .before .before .before .before .before .before .args .manager) (c .before .before .before .before .before .before .before .before .args .area)) (c .before .before .before .before .before .before .job-info .ensures .1 .0) (c .before .before .before .before .if1 .taken) (c .before .before .number-line .ensures .0), omega arith)
 
 info-line-requires : tie.Need-info-line-requires
 info-line-requires c κs = search needs
@@ -37,7 +37,7 @@ same-length-2 : tie.Need-same-length-2
 same-length-2 c = search needs
 
 returns-2 : tie.Need-returns-2
-returns-2 c = (info-accepted (infoNumberOf (c .before .before .before .before .before .before .before .before .before .before .before .args .manager) (c .before .before .before .before .before .before .before .before .before .before .before .args .area)) _ (c .before .before .before .before .before .before .before .before .number .ensures ∙ c .before .before .before .before .before .before .before .before .before .job-info .ensures .0) _ (infoOf (c .before .before .before .before .before .before .before .before .before .before .before .args .manager) (c .before .before .before .before .before .before .before .before .before .before .before .args .area)) (c .before .before .before .before .before .before .before .before .before .job-info .ensures .1) (c .before .before .before .before .before .before .before .if1 .left) (c .before .before .info-line .ensures .0), omega arith)
+returns-2 c = (info-accepted (infoNumberOf (c .before .before .before .before .before .before .before .before .before .before .before .args .manager) (c .before .before .before .before .before .before .before .before .before .before .before .args .area)) _ (c .before .before .before .before .before .before .before .before .number .ensures ∙ c .before .before .before .before .before .before .before .before .before .job-info .ensures .0) _ (infoOf (c .before .before .before .before .before .before .before .before .before .before .before .args .manager) (c .before .before .before .before .before .before .before .before .before .before .before .args .area)) (c .before .before .before .before .before .before .before .before .before .job-info .ensures .1 .0) (c .before .before .before .before .before .before .before .if1 .left) (c .before .before .info-line .ensures .0), omega arith)
 
 pub play-info-spec : {M : Type 1} → statement M
 play-info-spec =

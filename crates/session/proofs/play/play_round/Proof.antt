@@ -1,9 +1,9 @@
 use native.Mathlib.Omega.{arith}
 use mathlib.Core.Path.{_≡_, _∙_}
-use Rattle.session.specs.RoundLaws.{round-shows, round-refused, round-accepted}
+use Rattle.session.specs.laws.RoundLaws.{round-shows, round-refused, round-accepted}
 use Rattle.manager.specs.Calls.{roundNumberOf, afterRound}
 use Rattle.requests.specs.Effects.{memoryOf}
-use Rattle.session.specs.PlayLaws.{kept-state, kept-played, round-keeps}
+use Rattle.session.specs.laws.PlayLaws.{kept-state, kept-played, round-keeps}
 use borrow.Author.Needs.{needs}
 use Rattle.session.proofs.play.play_round.Statement.{statement}
 use Rattle.session.proofs.play.play_round.Tie as tie

@@ -1,6 +1,6 @@
 use mathlib.Core.Path.{sym, _∙_}
 use native.Mathlib.Omega.{arith}
-use Rattle.plan.specs.SizeLaws.{counts, size-few}
+use Rattle.plan.specs.laws.SizeLaws.{counts, size-few}
 use borrow.Author.Tests.{not-false, not-true}
 use Rattle.plan.proofs.records.Plan.admission.Statement.{statement}
 use Rattle.plan.proofs.records.Plan.admission.Tie as tie

@@ -1,5 +1,5 @@
 use native.Mathlib.Omega.{arith}
-use Rattle.plan.specs.RecordLaws.{layout-steps, plan-by-layout}
+use Rattle.plan.specs.laws.RecordLaws.{layout-steps, plan-by-layout}
 use Rattle.plan.proofs.records.Plan.read.Statement.{statement}
 use Rattle.plan.proofs.records.Plan.read.Tie as tie
 use Rattle.plan.proofs.records.Plan.read.Reads as reads

@@ -1,0 +1,7 @@
+pub mod QueryLaws
+pub mod QuestionLaws
+pub mod Dues
+pub mod Arrays
+pub mod SoundLaws
+pub mod DeviceLaws
+pub mod SoundCases

@@ -1,0 +1,7 @@
+pub mod Whole
+pub mod Accepted
+pub mod RecordLaws
+pub mod QuestionLaws
+pub mod SizeLaws
+pub mod LoadLaws
+pub mod NumberLaws

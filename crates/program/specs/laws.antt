@@ -1,0 +1,9 @@
+pub mod Arrays
+pub mod Halves
+pub mod Answers
+pub mod KeptCalls
+pub mod KeptRound
+pub mod Kept
+pub mod Reported
+pub mod EveryManager
+pub mod Program

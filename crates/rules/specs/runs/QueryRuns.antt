@@ -1,0 +1,184 @@
+-- What the queries answer, evaluated by the definitions that the contracts of the calls name. The expected values are worked out from document 01, as the comments say.
+use Prim.Native.Nat.{ℕ}
+use mathlib.Core.Path.{_≡_, refl}
+use mathlib.Core.List.{List, [], _∷_, _++_}
+use lib.ListN.{replicate}
+use Rattle.memory.specs.Numbers.{statusNumber}
+use Rattle.memory.specs.declared.DeviceAnswer.{DeviceAnswer}
+use Rattle.memory.specs.declared.DeviceAnswer.the-variants.{Pending, Done, Failed}
+use Rattle.memory.specs.declared.JobType.{JobType}
+use Rattle.memory.specs.declared.JobType.the-variants.{NoJob, Write, Read, Compare, Erase, Lock}
+use Rattle.memory.specs.declared.Task.{Task}
+use Rattle.plan.specs.runs.Examples.{planT, planE, device, area, subArea, sizes}
+use Rattle.plan.specs.declared.records.Granularity.{Granularity}
+use Rattle.state.specs.declared.JobInfo.{JobInfo}
+use Rattle.state.specs.declared.MemoryInfo.{MemoryInfo}
+use Rattle.state.specs.declared.RequestInfo.{RequestInfo}
+use Rattle.state.specs.declared.Waits.{Waits}
+use Rattle.rules.specs.History.{Call, cancels}
+use Rattle.rules.specs.runs.MarkedCases.{task}
+use Rattle.rules.specs.Queries.{noRequest}
+use Rattle.arith.specs.Bounded as Bounded
+use Rattle.arith.specs.FirstNo as FirstNo
+use Rattle.arith.specs.Multiples as Multiples
+use Rattle.arith.specs.Tables as Tables
+use Rattle.arith.specs.Parts as Parts
+use Rattle.plan.specs.Number as Number
+use Rattle.plan.specs.Records as Records
+use Rattle.plan.specs.Questions as Questions
+use Rattle.segment.specs.Mapping as Mapping
+use Rattle.segment.specs.Segments as Segments
+use Rattle.rules.specs.Layout as Layout
+use Rattle.rules.specs.Ranks as Ranks
+use Rattle.rules.specs.Machine as Machine
+use Rattle.rules.specs.Admission as Admission
+use Rattle.rules.specs.Round as Round
+use Rattle.rules.specs.History as History
+use Rattle.rules.specs.Queries as Queries
+
+-- Two devices. Area 1 has a sub-area on device 0 and one on device 1, every number of which is another; area 0 ranks below it and area 2 above it, both on device 1.
+abbrev planQ : List ℕ
+planQ =
+    device 0 16 2 ++ device 16 44 9 ++ area 1 0 0 4 ++ area 5 256 4 20 ++ area 9 512 24 8 ++ subArea 0 1 16 (sizes 8 8 4 4 1 8) 1 0 0
+    ++ subArea 1 0 0 (sizes 16 16 8 8 1 4) 1 0 0 ++ subArea 1 1 36 (sizes 12 24 4 8 2 6) 2 0 0 ++ subArea 2 1 24 (sizes 8 8 4 4 1 8) 1 0 0
+
+-- a round with these answers and an image of n bytes; the windows end at 32
+abbrev pub round : ℕ → List DeviceAnswer → Call
+round n answers = History.round answers (record { image = replicate n 255; store = replicate 32 0 })
+
+-- a round on plans T and E, with device 0's answer, and one on plan Q, with device 1's
+abbrev device0 : DeviceAnswer → Call
+device0 x = round 64 (x ∷ [])
+
+abbrev device1 : DeviceAnswer → Call
+device1 x = round 60 (Pending ∷ x ∷ [])
+
+abbrev pub job : JobType → ℕ → ℕ → ℕ → Call
+job k a address n = History.submit a (task k address n)
+
+-- the counts that are reported: the wait history's, as none has stuck
+abbrev reported : History.Tally → Waits
+reported w = record { own = w .own; above = w .above; below = w .below; locked = w .locked }
+
+-- what area a's queries answer after these calls: the number, status, result, processed length and job info
+abbrev asked : List ℕ → List Call → ℕ → ℕ × ℕ × ℕ × ℕ × JobInfo
+asked plan calls a =
+    let p = Records.planOf plan in
+    let h = History.run p calls History.freshHistory in
+    let j = h .core .jobs a in
+    (Admission.infoNumber p a, statusNumber (j .status), j .result .0, j .processed, Queries.jobInfoOf p (h .core) (reported (h .tallies a)) a)
+
+-- own, above, below, locked
+abbrev counts : ℕ → ℕ → ℕ → ℕ → Waits
+counts o a b l = record { own = o; above = a; below = b; locked = l }
+
+-- device, physical address, length, polls
+abbrev request : ℕ → ℕ → ℕ → ℕ → RequestInfo
+request d x n polls = record { device = d; start = record { 0 = x }; length = n; polls = polls }
+
+abbrev info : Task → ℕ → ℕ → Waits → RequestInfo → JobInfo
+info t result processed w r = record { task = t; result = record { 0 = result }; processed = processed; waits = w; request = r }
+
+-- what memory info answers: the number, and the info
+abbrev memoryNumber : List ℕ → ℕ → ℕ → ℕ
+memoryNumber plan a x = Admission.memoryInfoNumber (Records.planOf plan) a (record { 0 = x })
+
+abbrev memoryAsked : List ℕ → ℕ → ℕ → ℕ × MemoryInfo
+memoryAsked plan a x = (memoryNumber plan a x, Queries.memoryInfoOf (Records.planOf plan) a (record { 0 = x }))
+
+abbrev granularity : ℕ → ℕ → Granularity
+granularity unit burst = record { unit = unit; burst = burst }
+
+-- logical start, physical start, largest offset; the sizes of erase, write and read; device
+abbrev memory : ℕ → ℕ → ℕ → Granularity → Granularity → Granularity → ℕ → MemoryInfo
+memory logical physical offset e w r d =
+    record { «logical_start» = record { 0 = logical }; «physical_start» = record { 0 = physical }; «max_offset» = offset; erase = e; write = w; read = r; device = d }
+
+-- the paper's session
+abbrev write : Call
+write = job Write 0 4 12
+
+abbrev two : List Call
+two = write ∷ device0 Pending ∷ job Write 1 256 4 ∷ device0 Pending ∷ []
+
+abbrev whole : List Call
+whole = two ++ device0 Done ∷ device0 Done ∷ device0 (Failed 0) ∷ device0 Done ∷ []
+
+abbrev failed : List Call
+failed = job Write 1 256 8 ∷ device0 Pending ∷ device0 Done ∷ device0 (Failed 2) ∷ []
+
+abbrev compare : Call
+compare = job Compare 1 260 3
+
+-- area 1 ranks above area 0
+abbrev lock : List Call
+lock = job Erase 0 0 32 ∷ job Lock 1 257 5 ∷ device0 Pending ∷ device0 Pending ∷ []
+
+abbrev suspended : List Call
+suspended = job Erase 0 0 16 ∷ device0 Pending ∷ job Read 1 256 4 ∷ device0 Pending ∷ []
+
+-- Area 1's job is submitted when area 0's read has just been started. Area 2's read comes next, then area 1's first segment, and while that runs a lock request of area 2,
+-- which is released.
+abbrev unlike : List Call
+unlike =
+    job Read 1 274 2 ∷ cancels 1 ∷ job Read 0 0 4 ∷ device1 Pending ∷ job Read 1 274 20 ∷ replicate 7 (device1 Pending)
+    ++ job Read 2 512 4 ∷ device1 Done ∷ replicate 3 (device1 Pending)
+    ++ device1 Done ∷ job Lock 2 512 4 ∷ device1 Done ∷ replicate 7 (device1 Pending)
+    ++ History.releases 2 (record { 0 = 512 }) 4 ∷ device1 Pending ∷ device1 Done ∷ device1 Pending ∷ device1 Pending ∷ []
+
+pub query-runs :
+    -- Plan T fresh: "idle, result 0, no job, all counts 0"; it has areas 0 and 1.
+    (asked planT [] 0 ≡ (0, 0, 0, 0, info (task NoJob 0 0) 0 0 (counts 0 0 0 0) noRequest))
+    × (asked planT [] 1 ≡ (0, 0, 0, 0, info (task NoJob 0 0) 0 0 (counts 0 0 0 0) noRequest))
+    × (Admission.infoNumber (Records.planOf planT) 2 ≡ 10)
+    -- An accepted job, before any round: pending, nothing processed, no request.
+    × (asked planT (write ∷ []) 0 ≡ (0, 1, 0, 0, info (task Write 4 12) 0 0 (counts 0 0 0 0) noRequest))
+    -- The paper's session up to its fourth line: area 0's request, 4 at 4, was started and polled once: 2 rounds own. Area 1 was accepted between; its 1 round is below. The request on the
+    -- device it needs is not its own.
+    × (asked planT two 0 ≡ (0, 1, 0, 0, info (task Write 4 12) 0 0 (counts 2 0 0 0) (request 0 4 4 1)))
+    × (asked planT two 1 ≡ (0, 1, 0, 0, info (task Write 256 4) 0 0 (counts 0 0 1 0) noRequest))
+    -- "With one running, the area stays pending", and its request is shown; area 1's job, without one, ends "immediately, result 3".
+    × (asked planT (two ++ cancels 0 ∷ cancels 1 ∷ []) 0 ≡ (0, 1, 0, 0, info (task Write 4 12) 0 0 (counts 2 0 0 0) (request 0 4 4 1)))
+    × (asked planT (two ++ cancels 0 ∷ cancels 1 ∷ []) 1 ≡ (0, 0, 3, 0, info (task Write 256 4) 3 0 (counts 0 0 1 0) noRequest))
+    -- "when that request ends, for any cause, the job ends with result 3"; its 4 bytes are processed. The round that ends it adds to no count. Area 1's request, 4 at 32, starts: 1 round own.
+    × (asked planT (two ++ cancels 0 ∷ device0 Done ∷ []) 0 ≡ (0, 0, 3, 4, info (task Write 4 12) 3 4 (counts 2 0 0 0) noRequest))
+    × (asked planT (two ++ cancels 0 ∷ device0 Done ∷ []) 1 ≡ (0, 1, 0, 0, info (task Write 256 4) 0 0 (counts 1 0 1 0) (request 0 32 4 0)))
+    -- The session to its end: area 0 waited 1 round above for area 1, then its second segment was started and tried again: 4 rounds own. Both jobs have ended, and their data stay.
+    × (asked planT whole 0 ≡ (0, 0, 0, 12, info (task Write 4 12) 0 12 (counts 4 1 0 0) noRequest))
+    × (asked planT whole 1 ≡ (0, 0, 0, 4, info (task Write 256 4) 0 4 (counts 1 0 1 0) noRequest))
+    -- Area 1's first segment is done, its second fails; without a write retry the result is 1, with 4 bytes processed and 2 rounds own.
+    × (asked planT failed 1 ≡ (0, 0, 1, 4, info (task Write 256 8) 1 4 (counts 2 0 0 0) noRequest))
+    -- "An accepted job makes its area pending and sets processed length and counts to 0; the old result stands until the job ends." Then the image's 255 differ from the window's 0: result 2.
+    × (asked planT (failed ++ compare ∷ []) 1 ≡ (0, 1, 1, 0, info (task Compare 260 3) 1 0 (counts 0 0 0 0) noRequest))
+    × (asked planT (failed ++ compare ∷ device0 Pending ∷ []) 1 ≡ (0, 1, 1, 0, info (task Compare 260 3) 1 0 (counts 1 0 0 0) (request 0 36 3 0)))
+    × (asked planT (failed ++ compare ∷ device0 Pending ∷ device0 Done ∷ []) 1 ≡ (0, 0, 2, 0, info (task Compare 260 3) 2 0 (counts 1 0 0 0) noRequest))
+    -- A lock request ends with 0 when it is given, with nothing processed; area 0's erase waits 2 rounds for the device.
+    × (asked planT lock 0 ≡ (0, 1, 0, 0, info (task Erase 0 32) 0 0 (counts 0 0 0 2) noRequest))
+    × (asked planT lock 1 ≡ (0, 0, 0, 0, info (task Lock 257 5) 0 0 (counts 0 0 0 0) noRequest))
+    -- Plan E, whose chip can suspend: area 0's erase is suspended, so it has no request; area 1's read, 4 at 16, stands above it for 1 round.
+    × (asked (planE 83 3) suspended 0 ≡ (0, 1, 0, 0, info (task Erase 0 16) 0 0 (counts 1 1 0 0) noRequest))
+    × (asked (planE 83 3) suspended 1 ≡ (0, 1, 0, 0, info (task Read 256 4) 0 0 (counts 1 0 0 0) (request 0 16 4 0)))
+    -- Plan Q loads.
+    × (Questions.loadNumber planQ ≡ 0)
+    -- Every number another: result 3 of the job before; the read is cut into 6 at 38, 6 at 44, 6 at 50 and 2 at 56, since logical 274 is byte 2 of the sub-area at 36; two segments are done,
+    -- the third is polled twice. 7 rounds behind area 0, 4 behind area 2, 8 locked, 5 own: 1 of the first segment, 1 of the second, 3 of the third. Cancelled, it shows the same.
+    × (asked planQ unlike 1 ≡ (0, 1, 3, 12, info (task Read 274 20) 3 12 (counts 5 4 7 8) (request 1 50 6 2)))
+    × (asked planQ (unlike ++ cancels 1 ∷ []) 1 ≡ (0, 1, 3, 12, info (task Read 274 20) 3 12 (counts 5 4 7 8) (request 1 50 6 2)))
+    -- Memory info. Sub-area 0 of plan T: logical and physical start 0, 2 sectors of 16: 32 bytes. It is the same for each of its addresses; 32 is outside.
+    × (memoryAsked planT 0 0 ≡ (0, memory 0 0 31 (granularity 16 32) (granularity 4 8) (granularity 1 8) 0))
+    × (memoryAsked planT 0 5 ≡ (0, memory 0 0 31 (granularity 16 32) (granularity 4 8) (granularity 1 8) 0))
+    × (memoryAsked planT 0 31 ≡ (0, memory 0 0 31 (granularity 16 32) (granularity 4 8) (granularity 1 8) 0))
+    × (memoryNumber planT 0 32 ≡ 12)
+    -- Sub-area 1 of plan T: logical 256 to 287, physical start 32.
+    × (memoryAsked planT 1 270 ≡ (0, memory 256 32 31 (granularity 16 16) (granularity 4 4) (granularity 1 4) 0))
+    × (memoryAsked planT 1 287 ≡ (0, memory 256 32 31 (granularity 16 16) (granularity 4 4) (granularity 1 4) 0))
+    × (memoryNumber planT 1 255 ≡ 12)
+    × (memoryNumber planT 1 288 ≡ 12)
+    × (memoryNumber planT 2 0 ≡ 10)
+    -- Area 1 of plan Q: its first sub-area has the 16 bytes from 256 on, so its second begins at 272 and has 24; every number of the second is another.
+    × (memoryAsked planQ 1 271 ≡ (0, memory 256 0 15 (granularity 16 16) (granularity 8 8) (granularity 1 4) 0))
+    × (memoryAsked planQ 1 272 ≡ (0, memory 272 36 23 (granularity 12 24) (granularity 4 8) (granularity 2 6) 1))
+    × (memoryAsked planQ 1 289 ≡ (0, memory 272 36 23 (granularity 12 24) (granularity 4 8) (granularity 2 6) 1))
+    × (memoryNumber planQ 1 296 ≡ 12)
+unfolding Bounded.every Bounded.some Bounded.sum FirstNo.firstNo Multiples.multiple Tables.table Parts.upd Number.numberAt Records.deviceAt Records.areaAt Records.granularityAt Records.subAreaAt Records.isRecord Records.recordsUpTo Records.recordsFrom Records.deviceCount Records.areasStart Records.areaCount Records.subAreasStart Records.subAreaCount Records.recordsEnd Records.planOf Questions.apart Questions.wholeRecords Questions.countsFit Questions.deviceDue Questions.deviceJoins Questions.devicesJoin Questions.windowsApart Questions.windowsFit Questions.granularityFits Questions.sizesFit Questions.insideDevice Questions.isPlaced Questions.allPlaced Questions.sizeIn Questions.spaceFits Questions.spacesFit Questions.subAreasApart Questions.recordQuestions Questions.planQuestions Questions.loadNumber Questions.loadedPlan Mapping.find Mapping.mapped Segments.burstOrUnit Segments.segmentAt Segments.cut Segments.segmentsFrom Segments.spansAfter Segments.spans Ranks.agesAfter Ranks.rankAbove Layout.layoutOf Machine.jobFailed Machine.jobFinished Machine.jobDiffers Machine.takeAnswer Machine.ready Machine.best Machine.startDevice Machine.secondHalf Machine.waitBehind Machine.cancel Machine.begin Machine.release Admission.isInside Admission.isAligned Admission.fitsWindow Admission.onOneDevice Admission.rangeDevice Admission.jobQuestions Admission.releaseQuestions Admission.cancelQuestions Admission.infoQuestions Admission.memoryInfoQuestions Admission.imageFits Admission.storeReaches Admission.jobNumber Admission.releaseNumber Admission.cancelNumber Admission.infoNumber Admission.memoryInfoNumber Admission.roundNumber Round.takeIn Round.takeAll Round.roundHalves History.freshHistory History.roundOf History.submitted History.step History.run Queries.jobInfoOf Queries.memoryInfoOf
+query-runs = (refl, refl, refl, refl, refl, refl, refl, refl, refl, refl, refl, refl, refl, refl, refl, refl, refl, refl, refl, refl, refl, refl, refl, refl, refl, refl, refl, refl, refl, refl, refl, refl, refl, refl, refl, refl)

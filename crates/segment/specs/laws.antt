@@ -1,0 +1,10 @@
+pub mod Lookup
+pub mod MappingLaws
+pub mod LengthLaws
+pub mod CutLaws
+pub mod SegmentLaws
+pub mod BytesLaws
+pub mod SpanLaws
+pub mod LookupLaws
+pub mod Found
+pub mod Walks
