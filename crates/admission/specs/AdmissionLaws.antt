@@ -1,8 +1,11 @@
 -- Questions 12 to 15 by the cases that the code tests.
 use Prim.Native.Nat.{ℕ}
 use mathlib.Core.Bool.{true, false, false≢true}
-use mathlib.Core.Path.{_≡_, refl, ap, _∙_}
+use mathlib.Core.Path.{_≡_, refl, _∙_}
 use native.Mathlib.Omega.{arith}
+use borrow.Author.Tests.{ne-eqb}
+use lib.Dec.{eqb}
+use Rattle.arith.specs.Cases.{pick}
 use Rattle.arith.specs.FirstNo.{firstNo}
 use Rattle.memory.specs.Numbers.{admissionNumber, refusalNumber}
 use Rattle.memory.specs.laws.NumberLaws.{refusal-some}
@@ -16,17 +19,25 @@ use Rattle.rules.specs.Admission.{isInside, isAligned, usesWindow, fitsWindow, 
 use Rattle.segment.specs.Segments.{isLock}
 use Rattle.admission.specs.declared.JobAnswer.{JobAnswer}
 
--- a refused job has that number, and says nothing of retries
-pub refuses : (j : JobAnswer) (q : Refusal) → j ≡ record { answer = Refused q; retries = 0 } → (n : ℕ) → refusalNumber q ≡ n → (R : Type 0) →
-    (admissionNumber (j .answer) ≡ n) × (admissionNumber (j .answer) ≡ 0 → R)
-refuses j q e n h R =
-    let number = ap (λ (k : JobAnswer). admissionNumber (k .answer)) e in
-    (number ∙ h, λ z. absurd (omega (arith, refusal-some q, number, z)))
+-- how many retries an answer of number n holds: m, those of the job's first segment, where it is accepted, and else none
+unfoldable pub retriesFor : ℕ → ℕ → ℕ
+retriesFor n m = pick (eqb n 0) m 0
+
+pub accepted-retries : (n m r : ℕ) → r ≡ retriesFor n m → n ≡ 0 → r ≡ m
+unfolding retriesFor
+accepted-retries n m r e z = e ∙ rw z
+
+-- a refused job has that number, and no retries
+pub refuses : (j : JobAnswer) (q : Refusal) → j ≡ record { answer = Refused q; retries = 0 } → (n : ℕ) → refusalNumber q ≡ n → (m : ℕ) →
+    (admissionNumber (j .answer) ≡ n) × (j .retries ≡ retriesFor (admissionNumber (j .answer)) m)
+unfolding retriesFor
+refuses j q e n h m = rw e (h, rw (ne-eqb (refusalNumber q) 0 (λ z. omega (arith, refusal-some q))))
 
 -- an accepted one has r, those of its first segment
 pub accepts : (j : JobAnswer) (r : ℕ) → j ≡ record { answer = Accepted; retries = r } → (n : ℕ) → 0 ≡ n → (m : ℕ) → r ≡ m →
-    (admissionNumber (j .answer) ≡ n) × (admissionNumber (j .answer) ≡ 0 → j .retries ≡ m)
-accepts j r e n h m is = (ap (λ (k : JobAnswer). admissionNumber (k .answer)) e ∙ h, λ _. ap (λ (k : JobAnswer). k .retries) e ∙ is)
+    (admissionNumber (j .answer) ≡ n) × (j .retries ≡ retriesFor (admissionNumber (j .answer)) m)
+unfolding retriesFor
+accepts j r e n h m is = rw e (h, is)
 
 -- a lock request uses no window
 lock-no-window : (k : JobType) → isLock k ≡ true → usesWindow k ≡ false

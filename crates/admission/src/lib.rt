@@ -9,6 +9,7 @@ ghost use Rattle.memory.specs.Numbers.{admissionNumber};
 ghost use Rattle.memory.specs.declared.Admission.the-variants.{Accepted, Refused};
 ghost use Rattle.segment.specs.Mapping.{mapped};
 ghost use Rattle.segment.specs.Segments.{unitOf, segmentAt};
+ghost use Rattle.admission.specs.AdmissionLaws.{retriesFor};
 ghost use Rattle.admission.specs.RangeLaws.{isFound, offsetOf, lastByte, Behind, backFrom};
 ghost use Rattle.rules.specs.Admission.{isInside, usesWindow, ifAsked, lockTask, onOneDevice, rangeDevice, rangeQuestions};
 use memory::Admission;
@@ -30,7 +31,7 @@ use segment::segment_at;
 use segment::segment_found;
 use segment::unit_of;
 
-// The answer to a job and, where it is accepted, how many retries its first segment may take: its questions have found that segment.
+// The answer to a job and, where it is accepted, how many retries its first segment may take: its questions have found that segment. Where it is refused that is 0.
 pub struct JobAnswer {
     pub answer: Admission,
     pub retries: u8,
@@ -242,7 +243,7 @@ pub fn on_one_device(plan: Plan, area: usize, address: LogicalAddress, n: u32) -
 pub fn range_admission(plan: Plan, area: usize, task: Task) -> JobAnswer
     requires { ⌜ (plan .«sub_area_count» ≤ 32) × (area < 8) ⌝ }
     ensures { λ r. ⌜ admissionNumber (r .answer) ≡ firstNo 12 (rangeQuestions plan area task) ⌝ }
-    ensures { λ r. ⌜ (admissionNumber (r .answer) ≡ 0 → r .retries ≡ segmentAt plan area task 0 .retries) ⌝ }
+    ensures { λ r. ⌜ r .retries ≡ retriesFor (admissionNumber (r .answer)) (segmentAt plan area task 0 .retries) ⌝ }
 {
     let record = plan.areas[area];
     let start = record.start;

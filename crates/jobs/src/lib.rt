@@ -46,8 +46,8 @@ pub fn begun(task: Task, retries: u8, old: Job) -> Job
     }
 }
 
-pub fn ended(job: Job, result: JobResult) -> Job
-    ensures { λ r. ⌜ r ≡ ended (result .0) job ⌝ }
+pub fn ended(job: Job, given: JobResult) -> Job
+    ensures { λ r. ⌜ r ≡ ended (given .0) job ⌝ }
 {
     let task = job.task;
     Job {
@@ -55,7 +55,7 @@ pub fn ended(job: Job, result: JobResult) -> Job
         processed: job.processed,
         retries_left: job.retries_left,
         status: JobStatus::Idle,
-        result,
+        result: given,
     }
 }
 

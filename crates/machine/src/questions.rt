@@ -3,6 +3,7 @@ ghost use mathlib.Core.List.{_∷_};
 ghost use mathlib.Core.Path.{_≡_};
 ghost use mathlib.Core.Bool.{true};
 ghost use Prim.Native.Nat.{_≤_};
+ghost use Rattle.admission.specs.AdmissionLaws.{retriesFor};
 ghost use Rattle.arith.specs.Cases.{pick};
 ghost use Rattle.arith.specs.FirstNo.{firstNo};
 ghost use Rattle.memory.specs.Numbers.{admissionNumber};
@@ -93,7 +94,7 @@ pub fn job_admission(
 ) -> JobAnswer
     requires { ⌜ (sound ≡ true → (plan .«area_count» ≤ 8) × (plan .«sub_area_count» ≤ 32)) ⌝ }
     ensures { λ r. ⌜ admissionNumber (r .answer) ≡ firstNo 9 (sound ∷ jobQuestions plan (jobsAlone areas) area task) ⌝ }
-    ensures { λ r. ⌜ (admissionNumber (r .answer) ≡ 0 → r .retries ≡ segmentAt plan area task 0 .retries) ⌝ }
+    ensures { λ r. ⌜ r .retries ≡ retriesFor (admissionNumber (r .answer)) (segmentAt plan area task 0 .retries) ⌝ }
 {
     if !sound {
         return JobAnswer::refused(Refusal::Unsound);

@@ -5,10 +5,9 @@ use mathlib.Core.List.{List, []}
 use mathlib.Core.Logic.{_≢_}
 use mathlib.Core.Path.{_≡_, refl, sym, subst, _∙_}
 use native.Mathlib.Omega.{arith}
-use borrow.Author.Tests.{ne-eqb, ltb-true, leb-true, eqb-true}
-use lib.Dec.{eqb}
+use borrow.Author.Tests.{ltb-true, leb-true, eqb-true}
 use Rattle.arith.specs.Bounded.{every-elim}
-use Rattle.arith.specs.Cases.{pick, by-bool}
+use Rattle.arith.specs.Cases.{by-bool}
 use Rattle.arith.specs.Plain.{and-plain}
 use Rattle.machine.specs.Sound.{isSound, jobIn, stateIn, stateSound, segmentFits, requestSound}
 use Rattle.manager.specs.Calls.{coreOf, afterJob, afterRelease, afterCancel, roundNumberOf, afterRound, memoryAfterRound}
@@ -24,7 +23,7 @@ use Rattle.rules.specs.Layout.{layoutOf}
 use Rattle.rules.specs.Machine.{Core}
 use Rattle.rules.specs.Memory.{Memory}
 use Rattle.rules.specs.Round.{roundHalves}
-use Rattle.rules.specs.laws.Demand1.{round-inside}
+use Rattle.rules.specs.laws.Demand1.{pick-refused, round-inside}
 use Rattle.rules.specs.laws.RequestBytes.{Fits}
 use Rattle.rules.specs.laws.Requests.{requestAt, by-request, round-accepted}
 use Rattle.rules.specs.laws.TakeLaws.{Alone}
@@ -34,23 +33,19 @@ use Rattle.rules.specs.statements.Statements.{RoundInside}
 use Rattle.program.specs.Run.{managerNumber, managerAfter, managerMemory}
 use Rattle.program.specs.Statements.{EveryManager}
 
--- a number that is not 0 leaves the second
-not-accepted : {A : Type 0} (n : ℕ) (x y : A) → n ≢ 0 → pick (eqb n 0) x y ≡ y
-not-accepted n x y f = rw (ne-eqb n 0 f)
-
 -- "any other refusal returns the number and the manager given"
 refused : (m : Manager) (k : Call) → managerNumber k m ≢ 0 → managerAfter k m ≡ m
 unfolding afterJob afterRelease afterCancel afterRound
-refused m (submit a t) f = not-accepted _ _ m f
-refused m (releases a address n) f = not-accepted _ _ m f
-refused m (cancels a) f = not-accepted _ _ m f
+refused m (submit a t) f = pick-refused _ _ m f
+refused m (releases a address n) f = pick-refused _ _ m f
+refused m (cancels a) f = pick-refused _ _ m f
 refused m (asks q) f = refl
-refused m (round answers given) f = not-accepted _ _ m f
+refused m (round answers given) f = pick-refused _ _ m f
 
 -- "lent memory untouched"
 refused-round : (m : Manager) (answers : List DeviceAnswer) (lent : Memory) → let k = round answers lent in managerNumber k m ≢ 0 → managerMemory k m lent ≡ lent
 unfolding memoryAfterRound
-refused-round m answers lent f = not-accepted _ _ lent f
+refused-round m answers lent f = pick-refused _ _ lent f
 
 -- a call that is no round
 other-calls : (m : Manager) (k : Call) (lent : Memory) → isRound k ≡ false → managerMemory k m lent ≡ lent

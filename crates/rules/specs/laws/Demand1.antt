@@ -37,7 +37,7 @@ use Rattle.rules.specs.statements.Statements.{RoundInside, RoundChanges,
 use Rattle.rules.specs.laws.TakeLaws.{Alone, turn-memory, reached-alone, taken}
 
 -- a number that is not 0 picks what was before
-pick-refused : {A : Type 0} (n : ℕ) (x y : A) → n ≢ 0 → pick (eqb n 0) x y ≡ y
+pub pick-refused : {A : Type 0} (n : ℕ) (x y : A) → n ≢ 0 → pick (eqb n 0) x y ≡ y
 pick-refused n x y f = rw (ne-eqb n 0 f)
 
 -- "a refused call leaves [..] manager as they were"

@@ -1,4 +1,5 @@
 use Rattle.manager.specs.laws.CallLaws.{refused-some, job-number, job-few, job-refused, job-accepted}
+use Rattle.admission.specs.AdmissionLaws.{accepted-retries}
 use Rattle.machine.specs.laws.SoundCases.{sound-few}
 use Rattle.memory.specs.Numbers.{admissionNumber}
 use mathlib.Core.Path.{sym, ap, _∙_}
@@ -61,7 +62,7 @@ returns-2 c =
     let t = c .before .before .before .before .before .before .before .before .before .before .args .task in
     let number = job-number m a _ (c .before .before .before .before .before .before .before .is-sound .ensures) _ t (c .before .before .before .before .before .before .job-admission .ensures .0) in
     let accepted = sym number ∙ ap admissionNumber (c .before .before .before .before .enum-told2 .given .1) in
-    let first = c .before .before .before .before .before .before .job-admission .ensures .1 (ap admissionNumber (c .before .before .before .before .enum-told2 .given .1)) in
+    let first = accepted-retries _ _ _ (c .before .before .before .before .before .before .job-admission .ensures .1) (ap admissionNumber (c .before .before .before .before .enum-told2 .given .1)) in
     (number, c .with-accepted .ensures ∙ job-accepted m a t _ _ _ (c .before .before .before .begun-job .ensures) first (ap (λ x. x .waits) (c .before .before .fresh .ensures)) accepted)
 
 pub submit-spec : {M : Type 1} → statement M
