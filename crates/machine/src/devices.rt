@@ -4,16 +4,13 @@ ghost use Prim.Native.Nat.{_≤_, _<_};
 ghost use Rattle.arith.specs.Bounded.{some};
 ghost use Rattle.rules.specs.Layout.{layoutOf};
 ghost use Rattle.rules.specs.Admission.{holdsLock};
-ghost use Rattle.rules.specs.Machine.{begunWith, need, runsFor, keptFor, holds, cancel};
-ghost use Rattle.machine.specs.Sound.{jobIn, deviceIn, stateIn, coreIn};
-use jobs::begun;
+ghost use Rattle.rules.specs.Machine.{need, runsFor, keptFor, holds, cancel};
+ghost use Rattle.machine.specs.Sound.{deviceIn, stateIn};
 use jobs::cancelled;
 use jobs::ended;
 use memory::JobResult;
-use memory::Task;
 use plan::records::Plan;
 use segment::segment_at;
-use state::Area;
 use state::Device;
 use state::DeviceState;
 use state::Job;
@@ -92,12 +89,10 @@ pub(crate) fn held_somewhere(devices: [Device; 4], area: usize) -> bool
 }
 
 // Does the device that the area's job needs hold its request?
-fn request_held(plan: Plan, areas: [Area; 8], devices: [Device; 4], area: usize) -> bool
+fn request_held(plan: Plan, job: Job, devices: [Device; 4], area: usize) -> bool
     requires { ⌜ (plan .«sub_area_count» ≤ 32) × (area < 8) ⌝ }
-    ensures { λ r. ⌜ r ≡ holds area (deviceIn devices (need (layoutOf plan) area (jobIn areas area))) ⌝ }
+    ensures { λ r. ⌜ r ≡ holds area (deviceIn devices (need (layoutOf plan) area job)) ⌝ }
 {
-    let entry = areas[area];
-    let job = entry.job;
     let task = job.task;
     let segment = segment_at(plan, area, task, job.processed);
     let device = device_on(devices, segment.device as usize);
@@ -105,14 +100,14 @@ fn request_held(plan: Plan, areas: [Area; 8], devices: [Device; 4], area: usize)
 }
 
 // The same. Where no device holds one, the segment that is due needs no lookup.
-fn area_held(plan: Plan, areas: [Area; 8], devices: [Device; 4], area: usize) -> bool
+fn area_held(plan: Plan, job: Job, devices: [Device; 4], area: usize) -> bool
     requires { ⌜ (plan .«sub_area_count» ≤ 32) × (area < 8) ⌝ }
-    ensures { λ r. ⌜ r ≡ holds area (deviceIn devices (need (layoutOf plan) area (jobIn areas area))) ⌝ }
+    ensures { λ r. ⌜ r ≡ holds area (deviceIn devices (need (layoutOf plan) area job)) ⌝ }
 {
     if !held_somewhere(devices, area) {
         return false;
     }
-    request_held(plan, areas, devices, area)
+    request_held(plan, job, devices, area)
 }
 
 // Is the device locked for the area?
@@ -127,24 +122,12 @@ pub(crate) fn holds_lock(devices: [Device; 4], device: usize, area: usize) -> bo
     }
 }
 
-// The area's job after an accepted task, whose first segment may take so many retries.
-pub fn begun_job(areas: [Area; 8], area: usize, task: Task, retries: u8) -> Job
-    requires { ⌜ area < 8 ⌝ }
-    ensures { λ r. ⌜ r ≡ begunWith retries task (jobIn areas area) ⌝ }
-{
-    let entry = areas[area];
-    let job = entry.job;
-    begun(task, retries, job)
-}
-
 // The area's job after a cancel: over at once, unless its request runs or is suspended.
-pub fn cancelled_job(plan: Plan, areas: [Area; 8], devices: [Device; 4], area: usize) -> Job
+pub fn cancelled_job(plan: Plan, job: Job, devices: [Device; 4], area: usize) -> Job
     requires { ⌜ (plan .«sub_area_count» ≤ 32) × (area < 8) ⌝ }
-    ensures { λ r. ⌜ r ≡ cancel (layoutOf plan) area (coreIn areas devices) .jobs area ⌝ }
+    ensures { λ r. ⌜ r ≡ cancel (layoutOf plan) area (record { jobs = λ _. job; devices = deviceIn devices }) .jobs area ⌝ }
 {
-    let entry = areas[area];
-    let job = entry.job;
-    if area_held(plan, areas, devices, area) {
+    if area_held(plan, job, devices, area) {
         return cancelled(job);
     }
     ended(job, JobResult::CANCELED)

@@ -1,31 +1,28 @@
 // Questions 9 to 19 of the calls, in their order.
-ghost use mathlib.Core.List.{_∷_};
+ghost use mathlib.Core.List.{_∷_, []};
 ghost use mathlib.Core.Path.{_≡_};
-ghost use mathlib.Core.Bool.{true};
+ghost use mathlib.Core.Bool.{true, not};
 ghost use Prim.Native.Nat.{_≤_};
-ghost use Rattle.admission.specs.AdmissionLaws.{retriesFor};
+ghost use lib.Dec.{ltb};
 ghost use Rattle.arith.specs.Cases.{pick};
 ghost use Rattle.arith.specs.FirstNo.{firstNo};
 ghost use Rattle.memory.specs.Numbers.{admissionNumber};
-ghost use Rattle.rules.specs.Admission.{infoQuestions, cancelQuestions, memoryInfoQuestions, jobQuestions, releaseQuestions, imageFits, storeReaches, roundNumber};
+ghost use Rattle.rules.specs.Admission.{skip, infoQuestions, memoryInfoQuestions, releaseQuestions, imageFits, storeReaches, roundNumber};
+ghost use Rattle.rules.specs.Machine.{isPending};
 ghost use Rattle.plan.specs.Questions.{countsFit};
-ghost use Rattle.segment.specs.Segments.{segmentAt};
-ghost use Rattle.machine.specs.laws.QuestionLaws.{jobsAlone, devicesAlone};
+ghost use Rattle.machine.specs.laws.QuestionLaws.{devicesAlone};
 ghost use Rattle.machine.specs.Sound.{isSound, jobIn};
 ghost use Rattle.machine.specs.laws.Dues.{Due, DueIfSound};
 use crate::devices::holds_lock;
 use crate::dues::due_segments;
 use crate::dues::states_fit;
-use admission::JobAnswer;
 use admission::is_inside;
 use admission::on_one_device;
-use admission::range_admission;
 use admission::range_device;
 use jobs::is_pending;
 use memory::Admission;
 use memory::LogicalAddress;
 use memory::Refusal;
-use memory::Task;
 use plan::checks::counts_fit;
 use plan::questions::device_sum;
 use plan::records::Plan;
@@ -33,6 +30,7 @@ use segment::Segment;
 use segment::no_segment;
 use state::Area;
 use state::Device;
+use state::Job;
 
 // Whether the state is sound, question 9, is asked by the caller, who has it whole: to pass it on would cost a copy.
 // 9, 10: a query.
@@ -65,49 +63,36 @@ pub fn memory_admission(sound: bool, plan: Plan, area: usize, address: LogicalAd
     Admission::Accepted
 }
 
-// 9, 10, 17: a cancel.
-pub fn cancel_admission(sound: bool, plan: Plan, areas: [Area; 8], area: usize) -> Admission
-    requires { ⌜ (sound ≡ true → (plan .«area_count» ≤ 8) × (plan .«sub_area_count» ≤ 32)) ⌝ }
-    ensures { λ r. ⌜ admissionNumber r ≡ firstNo 9 (sound ∷ cancelQuestions plan (jobsAlone areas) area) ⌝ }
+// 9, 10, 17: a cancel, of an area with this job.
+pub fn cancel_admission(sound: bool, area_count: usize, area: usize, job: Job) -> Admission
+    ensures { λ r. ⌜ admissionNumber r ≡ firstNo 9 (sound ∷ ltb area «area_count» ∷ skip 6 (isPending job ∷ [])) ⌝ }
 {
     if !sound {
         return Admission::Refused(Refusal::Unsound);
     }
-    if plan.area_count <= area {
+    if area_count <= area {
         return Admission::Refused(Refusal::UnknownArea);
     }
-    let entry = areas[area];
-    let job = entry.job;
     if !is_pending(job) {
         return Admission::Refused(Refusal::NotPending);
     }
     Admission::Accepted
 }
 
-// 9 to 15: one of the five jobs, or a lock request.
-pub fn job_admission(
-    sound: bool,
-    plan: Plan,
-    areas: [Area; 8],
-    area: usize,
-    task: Task,
-) -> JobAnswer
-    requires { ⌜ (sound ≡ true → (plan .«area_count» ≤ 8) × (plan .«sub_area_count» ≤ 32)) ⌝ }
-    ensures { λ r. ⌜ admissionNumber (r .answer) ≡ firstNo 9 (sound ∷ jobQuestions plan (jobsAlone areas) area task) ⌝ }
-    ensures { λ r. ⌜ r .retries ≡ retriesFor (admissionNumber (r .answer)) (segmentAt plan area task 0 .retries) ⌝ }
+// 9, 10, 11: one of the five jobs, or a lock request, for an area with this job. Those of its range follow (admission::range_admission).
+pub fn idle_admission(sound: bool, area_count: usize, area: usize, job: Job) -> Admission
+    ensures { λ r. ⌜ admissionNumber r ≡ firstNo 9 (sound ∷ ltb area «area_count» ∷ not (isPending job) ∷ []) ⌝ }
 {
     if !sound {
-        return JobAnswer::refused(Refusal::Unsound);
+        return Admission::Refused(Refusal::Unsound);
     }
-    if plan.area_count <= area {
-        return JobAnswer::refused(Refusal::UnknownArea);
+    if area_count <= area {
+        return Admission::Refused(Refusal::UnknownArea);
     }
-    let entry = areas[area];
-    let job = entry.job;
     if is_pending(job) {
-        return JobAnswer::refused(Refusal::Busy);
+        return Admission::Refused(Refusal::Busy);
     }
-    range_admission(plan, area, task)
+    Admission::Accepted
 }
 
 // 9, 10, 12, 15, 16: a release.

@@ -15,6 +15,7 @@ use Rattle.memory.specs.declared.JobResult.{JobResult}
 use Rattle.memory.specs.declared.LogicalAddress.{LogicalAddress}
 use Rattle.memory.specs.declared.Task.{Task}
 use Rattle.rounds.specs.Close.{waitsIn, areasAfter, devicesAfter, halvesOf}
+use Rattle.plan.specs.declared.records.Plan.{Plan}
 use Rattle.rules.specs.Admission.{rangeDevice, jobQuestions, releaseQuestions, cancelQuestions, infoQuestions, memoryInfoQuestions, roundNumber}
 use Rattle.rules.specs.Layout.{Layout, layoutOf, layoutAt}
 use Rattle.rules.specs.Machine.{Core, begin, cancel, release}
@@ -23,12 +24,14 @@ use Rattle.rules.specs.Ranks.{agesAfter}
 use Rattle.rules.specs.Queries.{noRequest, jobInfoOf, noMemoryInfo, memoryInfoOf}
 use Rattle.state.specs.Ages.{ageIn}
 use Rattle.state.specs.Fresh.{noJob, noWaits}
+use Rattle.state.specs.declared.Area.{Area}
 use Rattle.state.specs.declared.Device.{Device}
 use Rattle.state.specs.declared.Job.{Job}
 use Rattle.state.specs.declared.JobInfo.{JobInfo}
 use Rattle.state.specs.declared.MemoryInfo.{MemoryInfo}
 use Rattle.state.specs.declared.Waits.{Waits}
 use Rattle.manager.specs.declared.Manager.{Manager}
+use Rattle.manager.specs.declared.changes.Change.{Change}
 
 -- jobs and devices, as the rules see them
 abbrev pub coreOf : Manager → Core
@@ -67,6 +70,20 @@ withAccepted a j w m =
 
 abbrev pub withDevice : ℕ → Device → Manager → Manager
 withDevice d x m = record { plan = m .plan; areas = m .areas; devices = set (m .devices) d x; ages = m .ages }
+
+-- a manager of its parts, as an owner who keeps it in one place hands them to a call
+abbrev pub managerOf : Plan → List Area → List Device → List ℕ → Manager
+managerOf p areas devices ages = record { plan = p; areas = areas; devices = devices; ages = ages }
+
+-- what a call hands back to that owner, written back
+abbrev pub changed : Manager → Change → Manager
+changed m c =
+    record {
+      plan = m .plan;
+      areas = set (m .areas) (c .«area_number») (c .area);
+      devices = set (m .devices) (c .«device_number») (c .device);
+      ages = c .ages;
+    }
 
 -- one of the five jobs, or a lock request: "An accepted job makes its area pending and sets processed length and counts to 0"
 unfoldable pub jobNumberOf : Manager → ℕ → Task → ℕ

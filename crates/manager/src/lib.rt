@@ -4,26 +4,27 @@ ghost use Rattle.memory.specs.Numbers.{jobTypeNumber, admissionNumber};
 ghost use Rattle.plan.specs.Questions.{loadNumber};
 ghost use Prim.Native.Nat.{_<_};
 ghost use Rattle.memory.specs.declared.JobType.the-variants.{Write, Read, Compare, Erase, BlankCheck, Lock};
-ghost use Rattle.manager.specs.Calls.{withArea, withAccepted, withDevice, jobNumberOf, afterJob, releaseNumberOf, afterRelease, cancelNumberOf, afterCancel, infoNumberOf, statusOf, resultOf, processedOf, noJobInfo, infoOf, jobTypeOf, memoryInfoNumberOf, memoryOfArea, roundNumberOf, afterRound, memoryAfterRound};
-ghost use Rattle.machine.specs.Sound.{jobIn, deviceIn};
-ghost use Rattle.rounds.specs.Close.{waitsIn};
-ghost use Rattle.rules.specs.Machine.{doing};
+ghost use Rattle.manager.specs.Calls.{changed, jobNumberOf, afterJob, releaseNumberOf, afterRelease, cancelNumberOf, afterCancel, infoNumberOf, statusOf, resultOf, processedOf, noJobInfo, infoOf, jobTypeOf, memoryInfoNumberOf, memoryOfArea, roundNumberOf, afterRound, memoryAfterRound};
+ghost use Rattle.machine.specs.Sound.{jobIn};
 ghost use Rattle.requests.specs.Effects.{memoryOf};
 ghost use Rattle.manager.specs.Load.{freshManager, loadedManager};
-use admission::range_device;
-use jobs::ranks::ages_after;
-use machine::devices::begun_job;
-use machine::devices::cancelled_job;
+
+pub mod changes;
+
+use crate::changes::Change;
+use crate::changes::ask;
+use crate::changes::begin;
+use crate::changes::release_change;
+use crate::changes::round_change;
+use crate::changes::stop;
 use machine::queries::job_info;
 use machine::queries::memory_info;
 use machine::queries::no_memory;
 use machine::queries::no_request;
 use machine::questions::cancel_admission;
+use machine::questions::idle_admission;
 use machine::questions::info_admission;
-use machine::questions::job_admission;
 use machine::questions::memory_admission;
-use machine::questions::release_admission;
-use machine::questions::round_admission;
 use machine::soundness::is_sound;
 use memory::Admission;
 use memory::DeviceAnswer;
@@ -33,14 +34,11 @@ use memory::LogicalAddress;
 use memory::Task;
 use plan::load::load_plan;
 use plan::records::Plan;
-use rounds::halves::run_round;
 use state::Area;
 use state::Device;
-use state::DeviceState;
 use state::Job;
 use state::JobInfo;
 use state::MemoryInfo;
-use state::Waits;
 
 // What the plan fixes, and what moves. An area's age is the number of other areas that had a job accepted since its own
 // latest one: among equal priorities the older is above.
@@ -140,44 +138,24 @@ impl Manager {
         }
     }
 
-    fn with_area(mut self, area: usize, job: Job, waits: Waits) -> Manager
-        requires { ⌜ area < 8 ⌝ }
-        ensures { λ r. ⌜ r ≡ withArea area job waits self ⌝ }
+    // The manager once what a call changes is written back.
+    fn with(mut self, change: Change) -> Answered
+        requires { ⌜ (change .«area_number» < 8) × (change .«device_number» < 4) ⌝ }
+        ensures { λ r. ⌜ r ≡ record { answer = change .answer; manager = changed self change } ⌝ }
     {
-        self.areas[area] = Area { job, waits };
-        self
-    }
-
-    // The area's job is accepted: of all areas it is the youngest.
-    fn with_accepted(mut self, area: usize, job: Job, waits: Waits) -> Manager
-        requires { ⌜ area < 8 ⌝ }
-        ensures { λ r. ⌜ r ≡ withAccepted area job waits self ⌝ }
-    {
-        let ages = ages_after(self.ages, area);
+        let answer = change.answer;
+        let area_number = change.area_number;
+        let area = change.area;
+        let device_number = change.device_number;
+        let device = change.device;
+        let ages = change.ages;
+        self.areas[area_number] = area;
+        self.devices[device_number] = device;
         self.ages = ages;
-        self.areas[area] = Area { job, waits };
-        self
-    }
-
-    fn with_job(self, area: usize, job: Job) -> Manager
-        requires { ⌜ area < 8 ⌝ }
-        ensures { λ r. ⌜ r ≡ withArea area job (waitsIn (self .areas) area) self ⌝ }
-    {
-        let areas = self.areas;
-        let entry = areas[area];
-        let waits = entry.waits;
-        self.with_area(area, job, waits)
-    }
-
-    fn with_device(mut self, device: usize, state: DeviceState) -> Manager
-        requires { ⌜ device < 4 ⌝ }
-        ensures { λ r. ⌜ r ≡ withDevice device (doing state (deviceIn (self .devices) device)) self ⌝ }
-    {
-        let devices = self.devices;
-        let old = devices[device];
-        let suspended = old.suspended;
-        self.devices[device] = Device { state, suspended };
-        self
+        Answered {
+            answer,
+            manager: self,
+        }
     }
 
     fn job_of(self, area: usize) -> Job
@@ -197,20 +175,17 @@ impl Manager {
     {
         let areas = self.areas;
         let devices = self.devices;
-        let sound = is_sound(self.plan, areas, devices);
-        let asked = job_admission(sound, self.plan, areas, area, task);
-        let answer = asked.answer;
+        let asked = ask(self.plan, areas, devices, area);
+        let answer = idle_admission(asked.sound, self.plan.area_count, area, asked.area.job);
         match answer {
             Admission::Refused(_) => Answered {
                 answer,
                 manager: self,
             },
             Admission::Accepted => {
-                let job = begun_job(areas, area, task, asked.retries);
-                let fresh = Area::fresh();
-                let waits = fresh.waits;
-                let manager = self.with_accepted(area, job, waits);
-                Answered { answer, manager }
+                let ages = self.ages;
+                let change = begin(self.plan, asked, devices[0], ages, task);
+                self.with(change)
             }
         }
     }
@@ -294,39 +269,28 @@ impl Manager {
     {
         let areas = self.areas;
         let devices = self.devices;
-        let sound = is_sound(self.plan, areas, devices);
-        let answer = release_admission(sound, self.plan, devices, area, address, length);
-        match answer {
-            Admission::Refused(_) => Answered {
-                answer,
-                manager: self,
-            },
-            Admission::Accepted => {
-                let device = range_device(self.plan, area, address, length);
-                let manager = self.with_device(device as usize, DeviceState::Free);
-                Answered { answer, manager }
-            }
-        }
+        let ages = self.ages;
+        let change = release_change(self.plan, areas, devices, ages, area, address, length);
+        self.with(change)
     }
 
     pub fn cancel(self, area: usize) -> Answered
         ensures { λ r. ⌜ admissionNumber (r .answer) ≡ cancelNumberOf self area ⌝ }
         ensures { λ r. ⌜ r .manager ≡ afterCancel self area ⌝ }
     {
-        let plan = self.plan;
         let areas = self.areas;
         let devices = self.devices;
-        let sound = is_sound(plan, areas, devices);
-        let answer = cancel_admission(sound, plan, areas, area);
+        let asked = ask(self.plan, areas, devices, area);
+        let answer = cancel_admission(asked.sound, self.plan.area_count, area, asked.area.job);
         match answer {
             Admission::Refused(_) => Answered {
                 answer,
                 manager: self,
             },
             Admission::Accepted => {
-                let job = cancelled_job(plan, areas, devices, area);
-                let manager = self.with_job(area, job);
-                Answered { answer, manager }
+                let ages = self.ages;
+                let change = stop(self.plan, asked, devices, ages);
+                self.with(change)
             }
         }
     }
@@ -441,36 +405,29 @@ impl Manager {
     }
 
     // A round takes the four answers of its devices, one each, and is lent image and job store.
-    pub fn round(self, answers: [DeviceAnswer; 4], image: &mut [u8], store: &mut [u8]) -> Answered
+    pub fn round(
+        mut self,
+        answers: [DeviceAnswer; 4],
+        image: &mut [u8],
+        store: &mut [u8],
+    ) -> Answered
         ensures { λ r. ⌜ admissionNumber (r .answer) ≡ roundNumberOf self (memoryOf (now (image .entry)) (now (store .entry))) ⌝ }
         ensures { λ r. ⌜ r .manager ≡ afterRound self answers (memoryOf (now (image .entry)) (now (store .entry))) ⌝ }
         ensures { λ _. ⌜ now (image .exit) ≡ memoryAfterRound self answers (memoryOf (now (image .entry)) (now (store .entry))) .image ⌝ }
         ensures { λ _. ⌜ now (store .exit) ≡ memoryAfterRound self answers (memoryOf (now (image .entry)) (now (store .entry))) .store ⌝ }
     {
-        let plan = self.plan;
         let areas = self.areas;
         let devices = self.devices;
-        let asked = round_admission(plan, areas, devices, image, store);
-        let answer = asked.answer;
-        match answer {
-            Admission::Refused(_) => Answered {
-                answer,
-                manager: self,
-            },
-            Admission::Accepted => {
-                let ages = self.ages;
-                let dues = asked.dues;
-                let next = run_round(plan, answers, areas, devices, ages, dues, image, store);
-                let areas = next.areas;
-                let devices = next.devices;
-                let manager = Manager {
-                    plan,
-                    areas,
-                    devices,
-                    ages,
-                };
-                Answered { answer, manager }
-            }
+        let ages = self.ages;
+        let change = round_change(self.plan, areas, devices, ages, answers, image, store);
+        let answer = change.answer;
+        let areas = change.areas;
+        let devices = change.devices;
+        self.areas = areas;
+        self.devices = devices;
+        Answered {
+            answer,
+            manager: self,
         }
     }
 }

@@ -16,13 +16,12 @@ use Rattle.rules.specs.Machine.{Core, due, need, begunWith, begun, cancelled, e
 use Rattle.rules.specs.Queries.{noRequest, requestOn}
 use Rattle.segment.specs.Segments.{segmentAt}
 use Rattle.segment.specs.declared.Segment.{Segment}
-use Rattle.state.specs.declared.Area.{Area}
 use Rattle.state.specs.declared.Device.{Device}
 use Rattle.state.specs.declared.DeviceState.{DeviceState}
 use Rattle.state.specs.declared.DeviceState.the-variants.{Free, Runs, LockedFor}
 use Rattle.state.specs.declared.Job.{Job}
 use Rattle.machine.specs.laws.Arrays.{device-past, state-past}
-use Rattle.machine.specs.Sound.{jobIn, deviceIn, stateIn}
+use Rattle.machine.specs.Sound.{deviceIn, stateIn}
 
 -- a lock is held on a device that the manager has
 pub lock-known : (devices : List Device) (d a n : ℕ) → length devices ≡ n → holdsLock a (stateIn devices d) ≡ true → d < n
@@ -49,14 +48,14 @@ module _ (devices : List Device) (a n : ℕ) (long : length devices ≡ n) (none
       no-run (LockedFor b) e = refl
       no-run (Runs b polls) e = rw e
 
--- the segment s that is due, and the device that it lies on
-module _ (p : Plan) (areas : List Area) (devices : List Device) (a : ℕ) (s : Segment) (is : s ≡ segmentAt p a (jobIn areas a .task) (jobIn areas a .processed)) where
-  pub area-held : (x : Device) → x ≡ deviceIn devices (s .device) → holds a x ≡ holds a (deviceIn devices (need (layoutOf p) a (jobIn areas a)))
+-- the segment s that is due of job j, and the device that it lies on
+module _ (p : Plan) (j : Job) (devices : List Device) (a : ℕ) (s : Segment) (is : s ≡ segmentAt p a (j .task) (j .processed)) where
+  pub area-held : (x : Device) → x ≡ deviceIn devices (s .device) → holds a x ≡ holds a (deviceIn devices (need (layoutOf p) a j))
   unfolding layoutOf
   area-held x here = ap (holds a) here ∙ ap (λ t. holds a (deviceIn devices (t .device))) is
 
   pub request-of : (x : DeviceState) → x ≡ stateIn devices (s .device) →
-      requestOn a s x ≡ requestOn a (due (layoutOf p) a (jobIn areas a)) (stateIn devices (need (layoutOf p) a (jobIn areas a)))
+      requestOn a s x ≡ requestOn a (due (layoutOf p) a j) (stateIn devices (need (layoutOf p) a j))
   unfolding layoutOf
   request-of x here = ap (requestOn a s) here ∙ ap (λ t. requestOn a t (stateIn devices (t .device))) is
 
@@ -71,3 +70,7 @@ pub cancel-job : (p : Layout) (a : ℕ) (c : Core) (t : Bool) → t ≡ holds a 
 unfolding cancel
 cancel-job p a c t e =
     rw e (by-bool (holds a (c .devices (need p a (c .jobs a)))) (λ f. rw f (sym (upd-same (c .jobs) a _))) (λ f. rw f (sym (upd-same (c .jobs) a _))))
+
+-- it hangs on that job alone
+pub cancel-alone : (p : Layout) (a : ℕ) (c : Core) → cancel p a (record { jobs = λ _. c .jobs a; devices = c .devices }) .jobs a ≡ cancel p a c .jobs a
+cancel-alone p a c = sym (cancel-job p a (record { jobs = λ _. c .jobs a; devices = c .devices }) _ refl) ∙ cancel-job p a c _ refl

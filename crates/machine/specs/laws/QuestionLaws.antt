@@ -18,33 +18,9 @@ use Rattle.state.specs.declared.Area.{Area}
 use Rattle.state.specs.declared.Device.{Device}
 use Rattle.machine.specs.Sound.{jobIn, deviceIn, isSound}
 
--- the jobs alone: a cancel and a job are asked nothing of what the devices do; and the devices alone, for a release
-abbrev pub jobsAlone : List Area → Core
-jobsAlone areas = record { jobs = jobIn areas; devices = λ _. freeDevice }
-
+-- the devices alone: a release is asked nothing of the jobs
 abbrev pub devicesAlone : List Device → Core
 devicesAlone devices = record { jobs = λ _. noJob; devices = deviceIn devices }
-
--- questions 9 to 11 answered "yes" leave the questions of the range
-pub job-number : (sound : Bool) (p : Plan) (c : Core) (a : ℕ) (t : Task) → sound ≡ true → ltb a (p .«area_count») ≡ true → isPending (c .jobs a) ≡ false →
-    firstNo 12 (rangeQuestions p a t) ≡ firstNo 9 (sound ∷ jobQuestions p c a t)
-unfolding firstNo jobQuestions
-job-number sound p c a t e f g = rw (e, f, g)
-
--- one of them answered "no"
-module _ (p : Plan) (c : Core) (a : ℕ) (t : Task) where
-  pub job-unsound : (sound : Bool) → sound ≡ false → 9 ≡ firstNo 9 (sound ∷ jobQuestions p c a t)
-  unfolding firstNo jobQuestions
-  job-unsound sound e = rw e
-
-  module _ (sound : Bool) (yes : sound ≡ true) where
-    pub job-unknown : ltb a (p .«area_count») ≡ false → 10 ≡ firstNo 9 (sound ∷ jobQuestions p c a t)
-    unfolding firstNo jobQuestions
-    job-unknown e = rw (yes, e)
-
-    pub job-busy : ltb a (p .«area_count») ≡ true → isPending (c .jobs a) ≡ true → 11 ≡ firstNo 9 (sound ∷ jobQuestions p c a t)
-    unfolding firstNo jobQuestions
-    job-busy e f = rw (yes, e, f)
 
 -- question 18, with the sum of the lengths
 pub image-fits : (p : Plan) (image : List ℕ) (s : ℕ) → s ≡ lengthSum (p .devices) (p .«device_count») → eqb (length image) s ≡ imageFits p image

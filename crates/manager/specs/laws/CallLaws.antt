@@ -22,7 +22,7 @@ use Rattle.memory.specs.declared.Refusal.{Refusal}
 use Rattle.memory.specs.declared.LogicalAddress.{LogicalAddress}
 use Rattle.memory.specs.declared.Task.{Task}
 use Rattle.machine.specs.laws.DeviceLaws.{begun-first, lock-known}
-use Rattle.machine.specs.laws.QuestionLaws.{jobsAlone, devicesAlone}
+use Rattle.machine.specs.laws.QuestionLaws.{devicesAlone}
 use Rattle.machine.specs.Sound.{jobIn, deviceIn, isSound}
 use Rattle.machine.specs.laws.SoundCases.{sound-few}
 use Rattle.rounds.specs.Close.{waitsIn, areasAfter, devicesAfter, halvesOf}
@@ -45,18 +45,10 @@ refused-some x q e n f = ne-eqb n 0 (λ z. omega (arith, refusal-some q, ap admi
 
 -- the number n of each call, with the answer to question 9
 module _ (m : Manager) (a : ℕ) (sound : Bool) (is : sound ≡ isSound (m .plan) (m .areas) (m .devices)) (n : ℕ) where
-  pub job-number : (t : Task) → n ≡ firstNo 9 (sound ∷ jobQuestions (m .plan) (jobsAlone (m .areas)) a t) → n ≡ jobNumberOf m a t
-  unfolding jobNumberOf jobQuestions
-  job-number t e = rw is at e
-
   pub release-number : (address : LogicalAddress) (l : ℕ) → n ≡ firstNo 9 (sound ∷ releaseQuestions (m .plan) (devicesAlone (m .devices)) a address l) →
       n ≡ releaseNumberOf m a address l
   unfolding releaseNumberOf releaseQuestions
   release-number address l e = rw is at e
-
-  pub cancel-number : n ≡ firstNo 9 (sound ∷ cancelQuestions (m .plan) (jobsAlone (m .areas)) a) → n ≡ cancelNumberOf m a
-  unfolding cancelNumberOf cancelQuestions
-  cancel-number e = rw is at e
 
   pub info-number : n ≡ firstNo 9 (sound ∷ infoQuestions (m .plan) a) → n ≡ infoNumberOf m a
   unfolding infoNumberOf
@@ -74,17 +66,9 @@ module _ (m : Manager) (a : ℕ) where
       let few = sound-few (m .plan) (m .areas) (m .devices) (yes 0 (omega arith)) in
       (few .1, omega (arith, few .0, ltb-true a (m .plan .«area_count») (yes 1 (omega arith))))
 
-  pub job-few : (t : Task) → jobNumberOf m a t ≡ 0 → (m .plan .«sub_area_count» ≤ 32) × (a < 8)
-  unfolding jobNumberOf jobQuestions
-  job-few t e = known-few _ e
-
   pub release-few : (address : LogicalAddress) (n : ℕ) → releaseNumberOf m a address n ≡ 0 → (m .plan .«sub_area_count» ≤ 32) × (a < 8)
   unfolding releaseNumberOf releaseQuestions
   release-few address n e = known-few _ e
-
-  pub cancel-few : cancelNumberOf m a ≡ 0 → (m .plan .«sub_area_count» ≤ 32) × (a < 8)
-  unfolding cancelNumberOf cancelQuestions
-  cancel-few e = known-few _ e
 
   pub info-few : infoNumberOf m a ≡ 0 → (m .plan .«sub_area_count» ≤ 32) × (a < 8)
   unfolding infoNumberOf infoQuestions
@@ -108,13 +92,6 @@ module _ (m : Manager) (a : ℕ) where
   pub job-refused : (t : Task) → eqb (jobNumberOf m a t) 0 ≡ false → m ≡ afterJob m a t
   unfolding afterJob
   job-refused t e = rw e
-
-  pub job-accepted : (t : Task) (j : Job) (w : Waits) (r : ℕ) → j ≡ begunWith r t (jobIn (m .areas) a) → r ≡ segmentAt (m .plan) a t 0 .retries → w ≡ noWaits →
-      jobNumberOf m a t ≡ 0 → withAccepted a j w m ≡ afterJob m a t
-  unfolding afterJob begin
-  job-accepted t j w r is first none e =
-      rw (eq-eqb (jobNumberOf m a t) 0 e)
-      (ap (λ j'. withAccepted a j' w m) (is ∙ begun-first (m .plan) a t (jobIn (m .areas) a) r first ∙ sym (upd-same (jobIn (m .areas)) a _)) ∙ ap (λ w'. withAccepted a (begin (layoutOf (m .plan)) a t (coreOf m) .jobs a) w' m) none)
 
   module _ (address : LogicalAddress) (n : ℕ) where
     -- the device of an accepted release is one that the manager has

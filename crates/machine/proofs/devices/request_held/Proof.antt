@@ -9,12 +9,6 @@ use Rattle.machine.proofs.devices.holds.Reads as holds-reads
 use Rattle.machine.proofs.devices.device_on.Reads as device-on-reads
 use Rattle.segment.proofs.segment_at.Reads as segment-at-reads
 
-mul-entry : tie.Need-mul-entry
-mul-entry c = search needs
-
-array-copy-out-entry : tie.Need-array-copy-out-entry
-array-copy-out-entry c = search needs
-
 segment-at-requires : tie.Need-segment-at-requires
 segment-at-requires c κs = search needs
 
@@ -28,14 +22,14 @@ holds-requires : tie.Need-holds-requires
 holds-requires c κs = search needs
 
 returns : tie.Need-returns
-returns c = c .holds .ensures ∙ area-held (c .before .before .before .before .before .before .before .args .plan) (c .before .before .before .before .before .before .before .args .t2) (c .before .before .before .before .before .before .before .args .devices) (c .before .before .before .before .before .before .before .args .area) _ (c .before .before .before .segment-at .ensures) _ (c .before .device-on .ensures)
+returns c =
+    let a = c .before .before .before .before .before .args in
+    c .holds .ensures ∙ area-held (a .plan) (a .job) (a .devices) (a .area) _ (c .before .before .before .segment-at .ensures) _ (c .before .device-on .ensures)
 
 pub request-held-spec : {M : Type 1} → statement M
 request-held-spec =
     tie.close
     (tie.spec
-    mul-entry
-    array-copy-out-entry
     segment-at-requires
     cast-device-on
     device-on-requires

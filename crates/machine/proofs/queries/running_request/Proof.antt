@@ -1,5 +1,6 @@
 use mathlib.Core.Path.{_∙_}
 use Rattle.machine.specs.laws.DeviceLaws.{request-of}
+use Rattle.machine.specs.Sound.{jobIn}
 use borrow.Author.Needs.{needs}
 use Rattle.machine.proofs.queries.running_request.Statement.{statement}
 use Rattle.machine.proofs.queries.running_request.Tie as tie
@@ -28,7 +29,9 @@ request-on-requires : tie.Need-request-on-requires
 request-on-requires c κs = search needs
 
 returns : tie.Need-returns
-returns c = c .request-on .ensures ∙ request-of (c .before .before .before .before .before .before .before .args .plan) (c .before .before .before .before .before .before .before .args .t2) (c .before .before .before .before .before .before .before .args .devices) (c .before .before .before .before .before .before .before .args .area) _ (c .before .before .before .segment-at .ensures) _ (c .before .state-on .ensures)
+returns c =
+    let a = c .before .before .before .before .before .before .before .args in
+    c .request-on .ensures ∙ request-of (a .plan) (jobIn (a .t2) (a .area)) (a .devices) (a .area) _ (c .before .before .before .segment-at .ensures) _ (c .before .state-on .ensures)
 
 pub running-request-spec : {M : Type 1} → statement M
 running-request-spec =

@@ -1,5 +1,3 @@
-use Rattle.rules.specs.Admission.{cancelQuestions}
-use native.Mathlib.Omega.{arith}
 use mathlib.Core.Path.{sym, _∙_}
 use Rattle.arith.specs.FirstNo.{firstNo}
 use borrow.Author.Tests.{not-true, not-false, lt-ltb, le-ltb}
@@ -11,38 +9,23 @@ use Rattle.machine.proofs.questions.cancel_admission.Lts as lts
 use Rattle.jobs.proofs.is_pending.Reads as is-pending-reads
 
 returns : tie.Need-returns
-unfolding firstNo cancelQuestions
+unfolding firstNo
 returns c = simp (not-true (c .before .args .sound) (c .if1 .taken))
 
 returns-2 : tie.Need-returns-2
-unfolding firstNo cancelQuestions
-returns-2 c = simp (not-false (c .before .before .before .args .sound) (c .before .before .if1 .left), le-ltb _ _ (c .if2 .taken))
-
-mul-entry : tie.Need-mul-entry
-mul-entry c = let few = c .before .before .before .pre (not-false (c .before .before .before .args .sound) (c .before .before .if1 .left)) in omega (arith, few, c .if2 .left)
-
-array-copy-out-entry : tie.Need-array-copy-out-entry
-array-copy-out-entry c = let few = c .before .before .before .pre (not-false (c .before .before .before .args .sound) (c .before .before .if1 .left)) in omega (arith, few, c .if2 .left)
+unfolding firstNo
+returns-2 c = simp (not-false (c .before .before .args .sound) (c .before .if1 .left), le-ltb _ _ (c .if2 .taken))
 
 is-pending-requires : tie.Need-is-pending-requires
 is-pending-requires c κs = search needs
 
 returns-3 : tie.Need-returns-3
-unfolding firstNo cancelQuestions
-returns-3 c = simp (not-false (c .before .before .before .before .before .before .before .args .sound) (c .before .before .before .before .before .before .if1 .left), lt-ltb _ _ (c .before .before .before .before .if2 .left), sym (c .before .is-pending .ensures) ∙ not-true _ (c .if3 .taken))
+unfolding firstNo
+returns-3 c = simp (not-false (c .before .before .before .before .args .sound) (c .before .before .before .if1 .left), lt-ltb _ _ (c .before .before .if2 .left), sym (c .before .is-pending .ensures) ∙ not-true _ (c .if3 .taken))
 
 returns-4 : tie.Need-returns-4
-unfolding firstNo cancelQuestions
-returns-4 c = simp (not-false (c .before .before .before .before .before .before .before .args .sound) (c .before .before .before .before .before .before .if1 .left), lt-ltb _ _ (c .before .before .before .before .if2 .left), sym (c .before .is-pending .ensures) ∙ not-false _ (c .if3 .left))
+unfolding firstNo
+returns-4 c = simp (not-false (c .before .before .before .before .args .sound) (c .before .before .before .if1 .left), lt-ltb _ _ (c .before .before .if2 .left), sym (c .before .is-pending .ensures) ∙ not-false _ (c .if3 .left))
 
 pub cancel-admission-spec : {M : Type 1} → statement M
-cancel-admission-spec =
-    tie.close
-    (tie.spec
-    returns
-    returns-2
-    mul-entry
-    array-copy-out-entry
-    is-pending-requires
-    returns-3
-    returns-4)
+cancel-admission-spec = tie.close (tie.spec returns returns-2 is-pending-requires returns-3 returns-4)

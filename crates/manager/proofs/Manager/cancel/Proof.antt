@@ -1,24 +1,25 @@
-use Rattle.rounds.specs.Close.{waitsIn}
-use Rattle.manager.specs.Calls.{withArea}
-use Rattle.manager.specs.laws.CallLaws.{refused-some, cancel-number, cancel-few, cancel-refused, cancel-accepted}
-use Rattle.machine.specs.laws.SoundCases.{sound-few}
-use Rattle.memory.specs.Numbers.{admissionNumber}
-use mathlib.Core.Path.{sym, ap, _∙_}
+use mathlib.Core.List.{_∷_, []}
+use mathlib.Core.Path.{ap, _∙_}
+use native.Mathlib.Omega.{arith}
+use Rattle.arith.specs.FirstNo.{firstNo}
+use Rattle.rules.specs.Admission.{skip, isKnown}
+use Rattle.rules.specs.Machine.{isPending}
+use Rattle.manager.specs.laws.ChangeLaws.{stoppedChange, cancel-none, cancel-asked, cancel-stopped}
 use borrow.Author.Needs.{needs}
 use Rattle.manager.proofs.Manager.cancel.Statement.{statement}
 use Rattle.manager.proofs.Manager.cancel.Tie as tie
 use Rattle.manager.proofs.Manager.cancel.Reads as reads
 use Rattle.manager.proofs.Manager.cancel.Lts as lts
-use Rattle.machine.proofs.devices.cancelled_job.Reads as cancelled-job-reads
 use Rattle.machine.proofs.questions.cancel_admission.Reads as cancel-admission-reads
-use Rattle.machine.proofs.soundness.is_sound.Reads as is-sound-reads
-use Rattle.manager.proofs.Manager.with_job.Reads as with-job-reads
+use Rattle.manager.proofs.Manager.with.Reads as with-reads
+use Rattle.manager.proofs.changes.ask.Reads as ask-reads
+use Rattle.manager.proofs.changes.stop.Reads as stop-reads
 
-is-sound-requires : tie.Need-is-sound-requires
-is-sound-requires c κs = search needs
+ask-requires : tie.Need-ask-requires
+ask-requires c κs = search needs
 
 cancel-admission-requires : tie.Need-cancel-admission-requires
-cancel-admission-requires c κs = λ e. sound-few _ _ _ (sym (c .is-sound .ensures) ∙ e)
+cancel-admission-requires c κs = search needs
 
 enum-told : tie.Need-enum-told
 enum-told c = search needs
@@ -26,46 +27,47 @@ enum-told c = search needs
 enum-told-2 : tie.Need-enum-told-2
 enum-told-2 c = search needs
 
-cancelled-job-requires : tie.Need-cancelled-job-requires
-cancelled-job-requires c κs =
-    let m = c .before .before .before .before .before .before .before .args .self in
-    let a = c .before .before .before .before .before .before .before .args .area in
-    let number = cancel-number m a _ (c .before .before .before .is-sound .ensures) _ (c .before .before .cancel-admission .ensures) in
-    let accepted = sym number ∙ ap admissionNumber (c .enum-told2 .given .1) in
-    cancel-few m a accepted
+stop-requires : tie.Need-stop-requires
+stop-requires c κs =
+    let a = c .before .before .before .before .before .before .before .args in
+    let k = c .before .before .before .before .ask .ensures in
+    let x = c .before .before .before .cancel-admission in
+    let is = x .ensures ∙ ap (λ z. firstNo 9 (z .sound ∷ isKnown (a .self .plan) (a .area) ∷ skip 6 (isPending (z .area .job) ∷ []))) (k .0) in
+    (cancel-asked (a .self .plan) (a .self .areas) (a .self .devices) (a .self .ages) (a .area) (x .result) is (c .before .enum-told2 .given .1), k .1)
 
-with-job-requires : tie.Need-with-job-requires
-with-job-requires c κs =
-    let m = c .before .before .before .before .before .before .before .before .args .self in
-    let a = c .before .before .before .before .before .before .before .before .args .area in
-    let number = cancel-number m a _ (c .before .before .before .before .is-sound .ensures) _ (c .before .before .before .cancel-admission .ensures) in
-    let accepted = sym number ∙ ap admissionNumber (c .before .enum-told2 .given .1) in
-    cancel-few m a accepted .1
+with-requires : tie.Need-with-requires
+with-requires c κs =
+    let r = c .stop .ensures in
+    (omega (arith, ap (λ z. z .«area_number») r, c .before .before .before .before .before .ask .ensures .1), omega (arith, ap (λ z. z .«device_number») r))
 
 returns : tie.Need-returns
 returns c =
-    let m = c .before .before .before .before .before .before .before .args .self in
-    let a = c .before .before .before .before .before .before .before .args .area in
-    let number = cancel-number m a _ (c .before .before .before .is-sound .ensures) _ (c .before .before .cancel-admission .ensures) in
-    (number, cancel-refused m a (refused-some _ _ (c .enum-told .given .1) _ number))
+    let a = c .before .before .before .before .before .before .args in
+    let k = c .before .before .before .ask .ensures in
+    let x = c .before .before .cancel-admission in
+    let is = x .ensures ∙ ap (λ z. firstNo 9 (z .sound ∷ isKnown (a .self .plan) (a .area) ∷ skip 6 (isPending (z .area .job) ∷ []))) (k .0) in
+    cancel-none (a .self .plan) (a .self .areas) (a .self .devices) (a .self .ages) (a .area) (x .result) is _ (c .enum-told .given .1)
 
 returns-2 : tie.Need-returns-2
 returns-2 c =
-    let m = c .before .before .before .before .before .before .before .before .before .args .self in
-    let a = c .before .before .before .before .before .before .before .before .before .args .area in
-    let number = cancel-number m a _ (c .before .before .before .before .before .is-sound .ensures) _ (c .before .before .before .before .cancel-admission .ensures) in
-    let accepted = sym number ∙ ap admissionNumber (c .before .before .enum-told2 .given .1) in
-    (number, c .with-job .ensures ∙ ap (λ j. withArea a j (waitsIn (m .areas) a) m) (c .before .cancelled-job .ensures) ∙ cancel-accepted m a accepted)
+    let a = c .before .before .before .before .before .before .before .before .before .args in
+    let k = c .before .before .before .before .before .before .ask .ensures in
+    let x = c .before .before .before .before .before .cancel-admission in
+    let is = x .ensures ∙ ap (λ z. firstNo 9 (z .sound ∷ isKnown (a .self .plan) (a .area) ∷ skip 6 (isPending (z .area .job) ∷ []))) (k .0) in
+    let r = c .before .stop in
+    let f = r .ensures ∙ ap (λ z. stoppedChange (a .self .plan) z (a .self .devices) (a .self .ages)) (k .0) in
+    let j = cancel-stopped (a .self .plan) (a .self .areas) (a .self .devices) (a .self .ages) (a .area) (x .result) is (c .before .before .before .enum-told2 .given .1) (r .result) f in
+    rw (c .with .ensures) (j .0, j .1)
 
 pub cancel-spec : {M : Type 1} → statement M
 cancel-spec =
     tie.close
     (tie.spec
-    is-sound-requires
+    ask-requires
     cancel-admission-requires
     enum-told
     enum-told-2
-    cancelled-job-requires
-    with-job-requires
+    stop-requires
+    with-requires
     returns
     returns-2)

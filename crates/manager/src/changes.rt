@@ -1,0 +1,264 @@
+// The calls for an owner of a manager who keeps it in one place: each takes the manager's parts and hands back only what it changes, and the owner writes that back. So a call costs the
+// same however large the manager is. What the manager is then is what the calls by value return (`changed`, `afterJob` and its siblings).
+ghost use mathlib.Core.Path.{_≡_};
+ghost use Prim.Native.Nat.{_≤_, _<_};
+ghost use Rattle.arith.specs.FirstNo.{firstNo};
+ghost use Rattle.memory.specs.Numbers.{admissionNumber};
+ghost use Rattle.requests.specs.Effects.{memoryOf};
+ghost use Rattle.rules.specs.Admission.{rangeQuestions};
+ghost use Rattle.manager.specs.Calls.{managerOf, changed, jobNumberOf, afterJob, releaseNumberOf, afterRelease, cancelNumberOf, afterCancel, roundNumberOf, afterRound, memoryAfterRound};
+ghost use Rattle.manager.specs.laws.ChangeLaws.{placeOf, askedArea, unchanged, begunChange, stoppedChange};
+use admission::range_admission;
+use admission::range_device;
+use jobs::begun;
+use jobs::ranks::ages_after;
+use machine::devices::cancelled_job;
+use machine::questions::cancel_admission;
+use machine::questions::idle_admission;
+use machine::questions::release_admission;
+use machine::questions::round_admission;
+use machine::soundness::is_sound;
+use memory::Admission;
+use memory::DeviceAnswer;
+use memory::LogicalAddress;
+use memory::Task;
+use plan::records::Plan;
+use rounds::halves::run_round;
+use state::Area;
+use state::Device;
+use state::DeviceState;
+
+// What a call changes: one area, one device, and the ages. What it leaves is as it was.
+pub struct Change {
+    pub area_number: usize,
+    pub area: Area,
+    pub device_number: usize,
+    pub device: Device,
+    pub ages: [u8; 8],
+    pub answer: Admission,
+}
+
+// What a round changes.
+pub struct RoundChange {
+    pub areas: [Area; 8],
+    pub devices: [Device; 4],
+    pub answer: Admission,
+}
+
+impl Change {
+    // A refused call changes nothing: any area and any device will do, as they stay.
+    fn none(areas: [Area; 8], devices: [Device; 4], ages: [u8; 8], answer: Admission) -> Change
+        ensures { λ r. ⌜ r ≡ unchanged areas devices ages answer ⌝ }
+    {
+        Change {
+            area_number: 0,
+            area: areas[0],
+            device_number: 0,
+            device: devices[0],
+            ages,
+            answer,
+        }
+    }
+}
+
+// What a call on an area goes by: question 9, and the area's entry with its place.
+pub struct AskedArea {
+    pub sound: bool,
+    pub number: usize,
+    pub area: Area,
+}
+
+// Of an area that a manager has no room for any entry will do: questions 9 and 10 refuse the call.
+fn place(area: usize) -> usize
+    ensures { λ r. ⌜ (r ≡ placeOf area) × (r < 8) ⌝ }
+{
+    if 8 <= area {
+        return 0;
+    }
+    area
+}
+
+pub(crate) fn ask(plan: Plan, areas: [Area; 8], devices: [Device; 4], area: usize) -> AskedArea
+    ensures { λ r. ⌜ r ≡ askedArea plan areas devices area ⌝ }
+    ensures { λ r. ⌜ r .number < 8 ⌝ }
+{
+    let sound = is_sound(plan, areas, devices);
+    let number = place(area);
+    AskedArea {
+        sound,
+        number,
+        area: areas[number],
+    }
+}
+
+// A job of an idle area: the questions of its range, and where they accept it the area with that job, the youngest of all areas.
+pub(crate) fn begin(
+    plan: Plan,
+    asked: AskedArea,
+    device: Device,
+    ages: [u8; 8],
+    task: Task,
+) -> Change
+    requires { ⌜ (plan .«sub_area_count» ≤ 32) × (asked .number < 8) ⌝ }
+    ensures { λ r. ⌜ admissionNumber (r .answer) ≡ firstNo 12 (rangeQuestions plan (asked .number) task) ⌝ }
+    ensures { λ r. ⌜ r ≡ begunChange (r .answer) plan asked device ages task ⌝ }
+{
+    let number = asked.number;
+    let area = asked.area;
+    let range = range_admission(plan, number, task);
+    let answer = range.answer;
+    match answer {
+        Admission::Refused(_) => Change {
+            area_number: number,
+            area,
+            device_number: 0,
+            device,
+            ages,
+            answer,
+        },
+        Admission::Accepted => {
+            let job = begun(task, range.retries, area.job);
+            let fresh = Area::fresh();
+            let waits = fresh.waits;
+            let ages = ages_after(ages, number);
+            Change {
+                area_number: number,
+                area: Area { job, waits },
+                device_number: 0,
+                device,
+                ages,
+                answer,
+            }
+        }
+    }
+}
+
+// The cancel of an area with a job pending.
+pub(crate) fn stop(plan: Plan, asked: AskedArea, devices: [Device; 4], ages: [u8; 8]) -> Change
+    requires { ⌜ (plan .«sub_area_count» ≤ 32) × (asked .number < 8) ⌝ }
+    ensures { λ r. ⌜ r ≡ stoppedChange plan asked devices ages ⌝ }
+{
+    let number = asked.number;
+    let area = asked.area;
+    let job = cancelled_job(plan, area.job, devices, number);
+    let waits = area.waits;
+    Change {
+        area_number: number,
+        area: Area { job, waits },
+        device_number: 0,
+        device: devices[0],
+        ages,
+        answer: Admission::Accepted,
+    }
+}
+
+// One of the five jobs, or a lock request.
+pub fn job_change(
+    plan: Plan,
+    areas: [Area; 8],
+    devices: [Device; 4],
+    ages: [u8; 8],
+    area: usize,
+    task: Task,
+) -> Change
+    ensures { λ r. ⌜ admissionNumber (r .answer) ≡ jobNumberOf (managerOf plan areas devices ages) area task ⌝ }
+    ensures { λ r. ⌜ changed (managerOf plan areas devices ages) r ≡ afterJob (managerOf plan areas devices ages) area task ⌝ }
+    ensures { λ r. ⌜ (r .«area_number» < 8) × (r .«device_number» < 4) ⌝ }
+{
+    let asked = ask(plan, areas, devices, area);
+    let answer = idle_admission(asked.sound, plan.area_count, area, asked.area.job);
+    match answer {
+        Admission::Refused(_) => Change::none(areas, devices, ages, answer),
+        Admission::Accepted => begin(plan, asked, devices[0], ages, task),
+    }
+}
+
+pub fn cancel_change(
+    plan: Plan,
+    areas: [Area; 8],
+    devices: [Device; 4],
+    ages: [u8; 8],
+    area: usize,
+) -> Change
+    ensures { λ r. ⌜ admissionNumber (r .answer) ≡ cancelNumberOf (managerOf plan areas devices ages) area ⌝ }
+    ensures { λ r. ⌜ changed (managerOf plan areas devices ages) r ≡ afterCancel (managerOf plan areas devices ages) area ⌝ }
+    ensures { λ r. ⌜ (r .«area_number» < 8) × (r .«device_number» < 4) ⌝ }
+{
+    let asked = ask(plan, areas, devices, area);
+    let answer = cancel_admission(asked.sound, plan.area_count, area, asked.area.job);
+    match answer {
+        Admission::Refused(_) => Change::none(areas, devices, ages, answer),
+        Admission::Accepted => stop(plan, asked, devices, ages),
+    }
+}
+
+pub fn release_change(
+    plan: Plan,
+    areas: [Area; 8],
+    devices: [Device; 4],
+    ages: [u8; 8],
+    area: usize,
+    address: LogicalAddress,
+    length: u32,
+) -> Change
+    ensures { λ r. ⌜ admissionNumber (r .answer) ≡ releaseNumberOf (managerOf plan areas devices ages) area address length ⌝ }
+    ensures { λ r. ⌜ changed (managerOf plan areas devices ages) r ≡ afterRelease (managerOf plan areas devices ages) area address length ⌝ }
+    ensures { λ r. ⌜ (r .«area_number» < 8) × (r .«device_number» < 4) ⌝ }
+{
+    let sound = is_sound(plan, areas, devices);
+    let answer = release_admission(sound, plan, devices, area, address, length);
+    match answer {
+        Admission::Refused(_) => Change::none(areas, devices, ages, answer),
+        Admission::Accepted => {
+            let number = range_device(plan, area, address, length) as usize;
+            let old = devices[number];
+            let suspended = old.suspended;
+            let state = DeviceState::Free;
+            Change {
+                area_number: 0,
+                area: areas[0],
+                device_number: number,
+                device: Device { state, suspended },
+                ages,
+                answer,
+            }
+        }
+    }
+}
+
+// A round takes the four answers of its devices, one each, and is lent image and job store. The ages stay.
+pub fn round_change(
+    plan: Plan,
+    areas: [Area; 8],
+    devices: [Device; 4],
+    ages: [u8; 8],
+    answers: [DeviceAnswer; 4],
+    image: &mut [u8],
+    store: &mut [u8],
+) -> RoundChange
+    ensures { λ r. ⌜ admissionNumber (r .answer) ≡ roundNumberOf (managerOf plan areas devices ages) (memoryOf (now (image .entry)) (now (store .entry))) ⌝ }
+    ensures { λ r. ⌜ managerOf plan (r .areas) (r .devices) ages ≡ afterRound (managerOf plan areas devices ages) answers (memoryOf (now (image .entry)) (now (store .entry))) ⌝ }
+    ensures { λ _. ⌜ now (image .exit) ≡ memoryAfterRound (managerOf plan areas devices ages) answers (memoryOf (now (image .entry)) (now (store .entry))) .image ⌝ }
+    ensures { λ _. ⌜ now (store .exit) ≡ memoryAfterRound (managerOf plan areas devices ages) answers (memoryOf (now (image .entry)) (now (store .entry))) .store ⌝ }
+{
+    let asked = round_admission(plan, areas, devices, image, store);
+    let answer = asked.answer;
+    match answer {
+        Admission::Refused(_) => RoundChange {
+            areas,
+            devices,
+            answer,
+        },
+        Admission::Accepted => {
+            let dues = asked.dues;
+            let next = run_round(plan, answers, areas, devices, ages, dues, image, store);
+            let areas = next.areas;
+            let devices = next.devices;
+            RoundChange {
+                areas,
+                devices,
+                answer,
+            }
+        }
+    }
+}
