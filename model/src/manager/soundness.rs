@@ -54,24 +54,22 @@ impl Manager {
         else {
             return false;
         };
-        let is_due = self.need(request.area).is_some_and(|need| {
-            matches!(need, Need::Piece(operation, piece)
-                if (operation, piece) == (request.operation, request.piece))
-        });
-        is_due
-            && request.piece.device == device
+        let Some(Need::Piece(operation, piece)) = self.need(request.area) else {
+            return false;
+        };
+        (operation, piece) == (request.operation, request.piece)
+            && piece.device == device
             && request.polls < self.plan.devices[device].patience
             && self.has_bytes(request, job)
     }
 
-    /// Do the bytes of a request lie in its device, its job and, if it uses that, its area's window?
+    /// Do the bytes of a request lie in its device, its job and, if it uses that, its area's window? A
+    /// piece begins where its sub-area has it, so that only its end is asked for.
     fn has_bytes(&self, request: &Request, job: &Job) -> bool {
-        let device = self.plan.devices[request.piece.device].bytes();
         let image_end = request.piece.start + request.piece.length;
         let job_end = self.areas[request.area].processed + request.piece.length;
         let window = u64::from(self.plan.areas[request.area].window_length);
-        device.start <= request.piece.start
-            && image_end <= device.end
+        image_end <= self.plan.devices[request.piece.device].bytes().end
             && job_end <= u64::from(job.target.length)
             && (!request.operation.uses_window() || job_end <= window)
     }
