@@ -39,7 +39,7 @@ impl Manager {
         is_state_sound && erase.is_none_or(|erase| self.is_suspension_sound(device, erase))
     }
 
-    /// "the chip can pause" erases alone.
+    /// "the erase is parked", and only where "the chip can pause".
     fn is_suspension_sound(&self, device: usize, erase: &Request) -> bool {
         self.plan.devices[device].chip.can_suspend()
             && erase.operation == Operation::Erase
