@@ -1,7 +1,8 @@
 //! "Questions at the door", 10 to 19: which calls are refused, and by which number. Pure functions
 //! of the plan, the arguments and what little the questions ask of the state.
 //!
-//! Question 9 refuses no state that an accepted load reaches, and there is no other here.
+//! Question 9 comes before all of them. The manager asks it of its whole state (`manager/soundness.rs`);
+//! of the wait book document 01 says that "9 refuses nothing here".
 
 use crate::jobs::{Operation, Target};
 use crate::plan::Plan;

@@ -10,7 +10,7 @@
 //! - [`jobs`]: job types, results, ranges and answers, the terms of the calls;
 //! - [`segments`]: the mapping and the cutting of jobs into pieces;
 //! - [`admission`]: the questions asked of calls (10 to 19);
-//! - [`manager`]: jobs, locks, releases, cancels, rounds and queries;
+//! - [`manager`]: jobs, locks, releases, cancels, rounds and queries, with question 9;
 //! - [`wait_book`]: the definition that the counts of demand 3 are held against;
 //! - [`session`]: the bench program of the printed session.
 //!
@@ -29,7 +29,7 @@
 //! - [`fuzz`]: sessions of ever new seeds;
 //! - [`histogram`]: how often each number came up;
 //! - [`loops`]: calls in loops, as the benchmarks time them;
-//! - [`race`]: two ways to the same sum, timed in turn;
+//! - [`race`]: several ways to the same sum, timed in turn;
 //! - `proved`: the proved library, called through its C interface (feature `proved`).
 
 pub mod admission;

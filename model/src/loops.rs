@@ -1,6 +1,11 @@
 //! The loops of the timing library on the model: for the benchmarks, and for the test that compares
 //! what they answer. Calls take the areas 0 to 7 in turn; a job covers so many bytes from logical
 //! address 0 on.
+//!
+//! Every call is really made in every turn. The compiler sees through a call that it can inline: a
+//! refused one leaves the manager as it was, so that questions may be answered once before the loop, and
+//! of job info only the field that is summed may be left. So a call is a function that is not inlined,
+//! the manager and the arguments pass through `black_box` in each turn, and so does a whole answer.
 
 use crate::jobs::{Answer, JobType};
 use crate::manager::Manager;
@@ -15,6 +20,7 @@ pub struct Request {
 
 const AREAS: u32 = 8;
 
+#[inline(never)]
 fn submit(manager: &mut Manager, request: Request, area: u32) -> u64 {
     let number = match request.job_type {
         JobType::Operation(operation) => manager.job(operation, area, 0, request.length),
@@ -23,25 +29,41 @@ fn submit(manager: &mut Manager, request: Request, area: u32) -> u64 {
     u64::from(number)
 }
 
+#[inline(never)]
+fn cancel(manager: &mut Manager, area: u32) -> u64 {
+    manager.cancel(area).into()
+}
+
+#[inline(never)]
+fn info(manager: &mut Manager, area: u32) -> u64 {
+    black_box(manager.job_info(area)).map_or(0, |info| info.length.into())
+}
+
+#[inline(never)]
+fn round(manager: &mut Manager, answer: Answer, image: &mut [u8], store: &mut [u8]) -> u64 {
+    manager.round([answer; 4], image, store).into()
+}
+
 /// The sum of what the calls answer, made on the areas in turn.
 fn sum(manager: &mut Manager, times: u32, mut call: impl FnMut(&mut Manager, u32) -> u64) -> u64 {
-    (0..times).map(|number| call(manager, black_box(number % AREAS))).sum()
+    (0..times).map(|number| call(black_box(&mut *manager), black_box(number % AREAS))).sum()
 }
 
 /// Cancels; the sum of the numbers.
 pub fn cancels(manager: &mut Manager, times: u32) -> u64 {
-    sum(manager, times, |manager, area| manager.cancel(area).into())
+    sum(manager, times, cancel)
 }
 
 /// Jobs; the sum of the numbers.
 pub fn jobs(manager: &mut Manager, request: Request, times: u32) -> u64 {
-    sum(manager, times, |manager, area| submit(manager, request, area))
+    sum(manager, times, |manager, area| submit(manager, black_box(request), area))
 }
 
 /// Jobs, each cancelled at once; the sum of all numbers.
 pub fn jobs_and_cancels(manager: &mut Manager, request: Request, times: u32) -> u64 {
     sum(manager, times, |manager, area| {
-        submit(manager, request, area) + u64::from(manager.cancel(area))
+        let number = submit(manager, black_box(request), area);
+        number + cancel(black_box(manager), area)
     })
 }
 
@@ -52,7 +74,7 @@ pub fn begin(manager: &mut Manager, request: Request) {
 
 /// Job info; the sum of the lengths that it gives.
 pub fn infos(manager: &mut Manager, times: u32) -> u64 {
-    sum(manager, times, |manager, area| manager.job_info(area).map_or(0, |i| i.length.into()))
+    sum(manager, times, info)
 }
 
 /// Rounds in which every device gives the same answer; the sum of the numbers and of what the jobs
@@ -64,8 +86,9 @@ pub fn rounds(
     image: &mut [u8],
     store: &mut [u8],
 ) -> u64 {
-    let round = |_| u64::from(manager.round([black_box(answer); 4], image, store));
-    let numbers: u64 = (0..times).map(round).sum();
+    let numbers = sum(manager, times, |manager, _| {
+        round(manager, black_box(answer), black_box(&mut *image), black_box(&mut *store))
+    });
     let processed = (0..AREAS).map(|area| u64::from(manager.processed(area).unwrap_or(0)));
     numbers + processed.sum::<u64>()
 }

@@ -2,11 +2,11 @@
 //! releases, cancels, rounds and queries over a loaded plan.
 //!
 //! Every call answers with the number of the first question answered "no", 0 if there is none; a
-//! refused call changes nothing. A manager only comes from an accepted load, so question 9 never
-//! refuses.
+//! refused call changes nothing. Each asks question 9 first.
 
 mod queries;
 mod round;
+mod soundness;
 
 pub use queries::{JobInfo, MemoryInfo, RequestInfo};
 
@@ -15,7 +15,8 @@ use crate::jobs::{Job, JobResult, JobType, Operation, Target};
 use crate::plan::{self, Plan};
 use crate::segments::{self, Piece};
 
-#[derive(Clone, Debug, PartialEq, Eq)]
+/// The default is "the manager of all zeros".
+#[derive(Clone, Debug, Default, PartialEq, Eq)]
 pub struct Manager {
     plan: Plan,
     areas: Vec<AreaState>,
@@ -181,6 +182,12 @@ impl Manager {
         self.suspended[device] = suspended;
     }
 
+    /// The job of an area, pending with so much processed: only for tests that make a manager wrong.
+    pub fn set_job(&mut self, area: usize, job: Job, processed: u64) {
+        let state = &mut self.areas[area];
+        (state.job, state.is_pending, state.processed) = (Some(job), true, processed);
+    }
+
     /// The pending areas, the earliest accepted first.
     pub fn order(&self) -> Vec<usize> {
         let mut order: Vec<_> =
@@ -199,7 +206,7 @@ impl Manager {
 
     pub fn job(&mut self, operation: Operation, area: u32, address: u32, length: u32) -> u8 {
         let target = Target { area, address, length };
-        match admission::job(&self.plan, self, operation, target) {
+        match self.sound_plan().and_then(|plan| admission::job(plan, self, operation, target)) {
             Ok(area) => self.accept(area, Job { job_type: JobType::Operation(operation), target }),
             Err(number) => number,
         }
@@ -207,7 +214,7 @@ impl Manager {
 
     pub fn lock(&mut self, area: u32, address: u32, length: u32) -> u8 {
         let target = Target { area, address, length };
-        match admission::lock(&self.plan, self, target) {
+        match self.sound_plan().and_then(|plan| admission::lock(plan, self, target)) {
             Ok(lock) => self.accept(lock.area, Job { job_type: JobType::LockRequest, target }),
             Err(number) => number,
         }
@@ -215,7 +222,8 @@ impl Manager {
 
     /// "Release clears the lock."
     pub fn release(&mut self, area: u32, address: u32, length: u32) -> u8 {
-        match admission::release(&self.plan, self, Target { area, address, length }) {
+        let target = Target { area, address, length };
+        match self.sound_plan().and_then(|plan| admission::release(plan, self, target)) {
             Ok(lock) => {
                 self.devices[lock.device] = DeviceState::Free;
                 0
@@ -227,7 +235,7 @@ impl Manager {
     /// "A cancel ends a job without a running request immediately, result 3. With one running, the
     /// area stays pending." And "a cancelled parked erase ends when its resumed request ends".
     pub fn cancel(&mut self, area: u32) -> u8 {
-        match admission::cancel(&self.plan, self, area) {
+        match self.sound_plan().and_then(|plan| admission::cancel(plan, self, area)) {
             Ok(area) => {
                 let has_request = self.running_request(area).is_some() || self.is_suspended(area);
                 let state = &mut self.areas[area];

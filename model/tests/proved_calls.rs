@@ -1,8 +1,9 @@
-//! The loops of the timing library against the same loops on the model: numbers, lengths, image and
-//! store, on plans of all kinds and with memory of wrong lengths.
+//! The loops of the timing library, in each of their forms, against the same loops on the model:
+//! numbers, lengths, image and store, on plans of all kinds and with memory of wrong lengths.
 #![cfg(feature = "timing")]
 
 use model::admission::furthest_window_end;
+use model::histogram::Histogram;
 use model::jobs::{Answer, JobType, Operation};
 use model::loops::{self, Request};
 use model::manager::Manager;
@@ -13,8 +14,6 @@ use model::random::Random;
 use model::sessions::bench_plan;
 
 const PLANS: u32 = 20_000;
-/// "the manager of all zeros does not" pass question 9: whatever is called on it answers so.
-const UNSOUND: u64 = 9;
 
 fn drawn_plan(random: &mut Random) -> Vec<u8> {
     match random.below(8) {
@@ -36,9 +35,10 @@ fn drawn_answer(random: &mut Random) -> Answer {
     random.pick(&[Answer::Pending, Answer::Done, Answer::Done, Answer::Failed(k)])
 }
 
-/// A loop on the model of a load, or on the manager of all zeros, of which each call gives this.
-fn owed(plan: &[u8], unsound: u64, run: impl FnOnce(&mut Manager) -> u64) -> u64 {
-    Manager::load(plan).map_or(unsound, |mut manager| run(&mut manager))
+/// The model's manager of a load. "A refused load returns the manager of all zeros", on which every call
+/// answers 9.
+fn loaded(plan: &[u8]) -> Manager {
+    Manager::load(plan).unwrap_or_default()
 }
 
 #[test]
@@ -47,26 +47,24 @@ fn calls_in_loops() {
     for number in 0..PLANS {
         let plan = drawn_plan(&mut random);
         let (request, times) = (drawn_request(&mut random), random.below(40));
-        let (zero, all) = (0, UNSOUND * u64::from(times));
-        let begun = |manager: &mut Manager| {
-            loops::begin(manager, request);
-            loops::infos(manager, times)
-        };
-        let answers = [
-            (timing::cancels(&plan, times), owed(&plan, all, |m| loops::cancels(m, times))),
-            (
-                timing::jobs(&plan, request, times),
-                owed(&plan, all, |m| loops::jobs(m, request, times)),
-            ),
-            (
-                timing::jobs_and_cancels(&plan, request, times),
-                owed(&plan, 2 * all, |m| loops::jobs_and_cancels(m, request, times)),
-            ),
-            (timing::infos(&plan, request, times), owed(&plan, zero, begun)),
-        ];
-        for (proved, model) in answers {
-            assert_eq!(proved, model, "plan {number}: {plan:02x?} {request:?} {times} times");
+        let case = format!("plan {number}: {plan:02x?} {request:?} {times} times");
+        let model = loops::cancels(&mut loaded(&plan), times);
+        for cancels in timing::CANCELS.both() {
+            assert_eq!(cancels.run(&plan, times), model, "cancels, {case}");
         }
+        let model = loops::jobs(&mut loaded(&plan), request, times);
+        for jobs in timing::JOBS.both() {
+            assert_eq!(jobs.run(&plan, request, times), model, "jobs, {case}");
+        }
+        let model = loops::jobs_and_cancels(&mut loaded(&plan), request, times);
+        let forms = [timing::JOBS_AND_CANCELS.both(), timing::GROWN_JOBS_AND_CANCELS.both()];
+        for jobs in forms.into_iter().flatten() {
+            assert_eq!(jobs.run(&plan, request, times), model, "jobs and cancels, {case}");
+        }
+        let mut begun = loaded(&plan);
+        loops::begin(&mut begun, request);
+        let model = loops::infos(&mut begun, times);
+        assert_eq!(timing::INFOS.run(&plan, request, times), model, "infos, {case}");
     }
 }
 
@@ -84,12 +82,12 @@ fn drawn_memory(random: &mut Random, plan: &[u8]) -> (Vec<u8>, Vec<u8>) {
     (bytes(image_length), bytes(store_length))
 }
 
-/// The numbers of questions 18 and 19 come up here as well: no line of a session that the bench runs
+/// The numbers of questions 9, 18 and 19 come up here as well: no line of a session that the bench runs
 /// is refused by them.
 #[test]
 fn rounds_in_loops() {
     let mut random = Random::new(92);
-    let mut refused = [0u32; 3];
+    let mut numbers = Histogram::default();
     for number in 0..PLANS {
         let plan = drawn_plan(&mut random);
         if plan::load(&plan).is_ok_and(|plan| plan.device_sum() > 65_536) {
@@ -97,22 +95,23 @@ fn rounds_in_loops() {
         }
         let (request, answer) = (drawn_request(&mut random), drawn_answer(&mut random));
         let times = random.below(12);
-        let (mut image, mut store) = drawn_memory(&mut random, &plan);
-        let (mut proved_image, mut proved_store) = (image.clone(), store.clone());
-        let model = owed(&plan, UNSOUND * u64::from(times), |manager| {
-            loops::begin(manager, request);
-            let mut lent = manager.clone();
-            let number = lent.round([answer; 4], &mut image.clone(), &mut store.clone());
-            refused[usize::from(number.saturating_sub(17))] += 1;
-            loops::rounds(manager, answer, times, &mut image, &mut store)
-        });
-        let proved =
-            timing::rounds(&plan, request, answer, times, &mut proved_image, &mut proved_store);
+        let lent = drawn_memory(&mut random, &plan);
+        let mut manager = loaded(&plan);
+        loops::begin(&mut manager, request);
+        let (mut image, mut store) = lent.clone();
+        let mut first = (manager.clone(), lent.clone());
+        numbers.add(first.0.round([answer; 4], &mut first.1 .0, &mut first.1 .1));
+        let model = loops::rounds(&mut manager, answer, times, &mut image, &mut store);
         let case = format!("plan {number}: {plan:02x?} {request:?} {answer:?} {times} times");
-        assert_eq!(proved, model, "{case}");
-        assert!(proved_image == image, "image of {case}");
-        assert!(proved_store == store, "store of {case}");
+        let forms = [timing::ROUNDS.both(), timing::GROWN_ROUNDS.both()];
+        for rounds in forms.into_iter().flatten() {
+            let mut left = lent.clone();
+            let sum = rounds.run(&plan, request, answer, times, &mut left.0, &mut left.1);
+            assert_eq!(sum, model, "{case}");
+            assert!(left.0 == image, "image of {case}");
+            assert!(left.1 == store, "store of {case}");
+        }
     }
-    println!("accepted, refused by 18, by 19: {refused:?}");
-    assert!(refused.iter().all(|count| *count > 500));
+    println!("{}", numbers.of("first rounds"));
+    assert!([0, 9, 18, 19].iter().all(|number| numbers.count(*number) > 500), "{numbers}");
 }

@@ -1,13 +1,16 @@
 //! Times the model and the proved library on the same work in one run, in nanoseconds of one
-//! operation, and gives the ratio of the two.
+//! operation, with the ratios to the model: of calls that take the manager by value and of an owner that
+//! holds it and writes back what a call changes. Where the library has one form, the other column is
+//! empty.
 
 use model::jobs::{Answer, JobType, Operation};
 use model::loops::{self, Request};
 use model::manager::Manager;
 use model::plan::{self, Chip, Plan};
 use model::plans::{encode, enduring, largest, with_chips};
-use model::proved::{self, timing};
-use model::race::{race, Race};
+use model::proved;
+use model::proved::timing::{self, CancelLoop, Forms, JobLoop, RoundLoop};
+use model::race::{race, Runner};
 use std::hint::black_box;
 
 #[cfg(feature = "session")]
@@ -21,17 +24,32 @@ use model::{
 };
 
 fn main() {
-    println!("{:<44} {:>12} {:>12} {:>8}", "", "model ns", "proved ns", "ratio");
+    let forms = format!("{:>12} {:>8}", "by value ns", "ratio");
+    println!("{:<44} {:>10} {forms} {:>12} {:>8}", "", "model ns", "in place ns", "ratio");
     loads();
     calls();
     rounds();
     growth();
     #[cfg(feature = "session")]
     sessions();
+    grown();
 }
 
-fn report(name: &str, race: Race) {
-    println!("{name:<44} {race}");
+/// A time and its ratio to another, or nothing where there is none.
+fn column(time: Option<f64>, to: f64) -> String {
+    time.map_or(format!("{:>21}", ""), |time| format!("{time:>12.1} {:>8.2}", time / to))
+}
+
+fn report(name: &str, model: f64, by_value: Option<f64>, in_place: Option<f64>) {
+    let forms = format!("{} {}", column(by_value, model), column(in_place, model));
+    println!("{name:<44} {model:>10.1} {forms}");
+}
+
+/// The three race in one run.
+fn report_forms(name: &str, operations: u32, model: Runner<'_>, forms: [Runner<'_>; 2]) {
+    let [by_value, in_place] = forms;
+    let [model, by_value, in_place] = race(operations, [model, by_value, in_place]);
+    report(name, model, Some(by_value), Some(in_place));
 }
 
 const LOADS: u32 = 2_000;
@@ -61,7 +79,8 @@ fn load(name: &str, number: u8, bytes: &[u8]) {
         |load: &dyn Fn(&[u8]) -> u8| (0..LOADS).map(|_| u64::from(load(black_box(bytes)))).sum();
     let model = |bytes: &[u8]| black_box(plan::load(bytes)).err().unwrap_or(0);
     let proved = |bytes: &[u8]| black_box(proved::load(bytes)).number;
-    report(name, race(LOADS, &mut || sum(&model), &mut || sum(&proved)));
+    let [model, by_value] = race(LOADS, [&mut || sum(&model), &mut || sum(&proved)]);
+    report(name, model, Some(by_value), None);
 }
 
 const CALLS: u32 = 200_000;
@@ -91,12 +110,14 @@ fn request(operation: Operation, length: u32) -> Request {
     Request { job_type: JobType::Operation(operation), length }
 }
 
-/// Calls on the plan with most records. The model asks no question 9: its managers are all sound.
+/// Calls on the plan with most records.
 fn calls() {
     let peer = Peer::of(&largest());
     let mut model = || loops::cancels(&mut peer.manager.clone(), CALLS);
-    let mut proved = || timing::cancels(&peer.bytes, CALLS);
-    report("cancel, refused by question 17", race(CALLS, &mut model, &mut proved));
+    let run = |cancels: CancelLoop| cancels.run(&peer.bytes, CALLS);
+    let Forms { by_value, in_place } = timing::CANCELS;
+    let forms: [Runner<'_>; 2] = [&mut || run(by_value), &mut || run(in_place)];
+    report_forms("cancel, refused by question 17", CALLS, &mut model, forms);
     job("write, refused by question 11", &peer, request(Operation::Write, 16));
     job("write, refused by question 12", &peer, request(Operation::Write, 0));
     job("write, refused by question 14", &peer, request(Operation::Write, 20));
@@ -109,25 +130,30 @@ fn calls() {
 /// Of all these jobs at most the first on each area is accepted.
 fn job(name: &str, peer: &Peer, request: Request) {
     let mut model = || loops::jobs(&mut peer.manager.clone(), request, CALLS);
-    let mut proved = || timing::jobs(&peer.bytes, request, CALLS);
-    report(name, race(CALLS, &mut model, &mut proved));
+    report_jobs(name, peer, request, timing::JOBS, &mut model);
 }
 
 fn job_and_cancel(peer: &Peer, operation: Operation) {
     let request = request(operation, 16);
     let mut model = || loops::jobs_and_cancels(&mut peer.manager.clone(), request, CALLS);
-    let mut proved = || timing::jobs_and_cancels(&peer.bytes, request, CALLS);
     assert_eq!(model(), 0, "all are accepted");
     let name = format!("{operation:?} accepted, and its cancel");
-    report(&name, race(CALLS, &mut model, &mut proved));
+    report_jobs(&name, peer, request, timing::JOBS_AND_CANCELS, &mut model);
+}
+
+fn report_jobs(name: &str, peer: &Peer, request: Request, jobs: Forms<JobLoop>, model: Runner<'_>) {
+    let run = |jobs: JobLoop| jobs.run(&peer.bytes, request, CALLS);
+    let forms: [Runner<'_>; 2] = [&mut || run(jobs.by_value), &mut || run(jobs.in_place)];
+    report_forms(name, CALLS, model, forms);
 }
 
 fn info() {
     let request = request(Operation::Write, 16);
     let peer = Peer::begun(&largest(), request);
     let mut model = || loops::infos(&mut peer.manager.clone(), CALLS);
-    let mut proved = || timing::infos(&peer.bytes, request, CALLS);
-    report("job info", race(CALLS, &mut model, &mut proved));
+    let mut proved = || timing::INFOS.run(&peer.bytes, request, CALLS);
+    let [model, by_value] = race(CALLS, [&mut model, &mut proved]);
+    report("job info", model, Some(by_value), None);
 }
 
 /// Fewer than the bytes of a job, so that no job ends.
@@ -138,34 +164,47 @@ const STORE_LENGTH: usize = 65_536;
 /// Rounds on the plan with most records, all four devices busy.
 fn rounds() {
     let plan = enduring(4, 8, 32);
-    report("round, 4 writes pending", round(&plan, Operation::Write, Answer::Pending));
-    report("round, 4 erases pending", round(&plan, Operation::Erase, Answer::Pending));
+    round("round, 4 writes pending", &plan, Operation::Write, Answer::Pending);
+    round("round, 4 erases pending", &plan, Operation::Erase, Answer::Pending);
     let suspending = with_chips(plan.clone(), Chip::Suspending);
-    let erases = round(&suspending, Operation::Erase, Answer::Pending);
-    report("round, 4 erases pending, chips can suspend", erases);
+    let name = "round, 4 erases pending, chips can suspend";
+    round(name, &suspending, Operation::Erase, Answer::Pending);
     for operation in Operation::ALL {
         let name = format!("round, 4 requests of {operation:?} done");
-        report(&name, round(&plan, operation, Answer::Done));
+        round(&name, &plan, operation, Answer::Done);
     }
-    let writes = round(&with_chips(plan, Chip::Clearing), Operation::Write, Answer::Done);
-    report("round, 4 writes done, chips only clear bits", writes);
+    let clearing = with_chips(plan, Chip::Clearing);
+    round("round, 4 writes done, chips only clear bits", &clearing, Operation::Write, Answer::Done);
 }
 
 /// Image and store are all 255, so that no compare or blank check finds a difference.
-fn round(plan: &Plan, operation: Operation, answer: Answer) -> Race {
+fn memory(plan: &Plan) -> (Vec<u8>, Vec<u8>) {
+    let image_length = usize::try_from(plan.device_sum()).expect("an image");
+    (vec![255; image_length], vec![255; STORE_LENGTH])
+}
+
+fn round(name: &str, plan: &Plan, operation: Operation, answer: Answer) {
     let request = request(operation, JOB_LENGTH);
     let peer = Peer::begun(plan, request);
-    let image_length = usize::try_from(plan.device_sum()).expect("an image");
-    let memory = || (vec![255; image_length], vec![255; STORE_LENGTH]);
-    let (mut image, mut store) = memory();
+    let (mut image, mut store) = memory(plan);
     let mut model = || {
         let mut manager = peer.manager.clone();
         loops::rounds(&mut manager, answer, ROUNDS, &mut image, &mut store)
     };
-    let (mut image, mut store) = memory();
-    let mut proved =
-        || timing::rounds(&peer.bytes, request, answer, ROUNDS, &mut image, &mut store);
-    race(ROUNDS, &mut model, &mut proved)
+    let mut by_value = round_runner(timing::ROUNDS.by_value, plan, request, answer);
+    let mut in_place = round_runner(timing::ROUNDS.in_place, plan, request, answer);
+    report_forms(name, ROUNDS, &mut model, [&mut by_value, &mut in_place]);
+}
+
+/// A loop of the library on memory of its own.
+fn round_runner(
+    rounds: RoundLoop,
+    plan: &Plan,
+    request: Request,
+    answer: Answer,
+) -> impl FnMut() -> u64 {
+    let (bytes, (mut image, mut store)) = (encode(plan), memory(plan));
+    move || rounds.run(&bytes, request, answer, ROUNDS, &mut image, &mut store)
 }
 
 /// How the cost of a round grows with the records of the plan, from one of each kind on.
@@ -183,7 +222,7 @@ fn growth() {
     ];
     for [devices, areas, sub_areas] in counts {
         let name = format!("round, {devices} devices, {areas} areas, {sub_areas} sub-areas");
-        report(&name, round(&enduring(devices, areas, sub_areas), Operation::Read, Answer::Done));
+        round(&name, &enduring(devices, areas, sub_areas), Operation::Read, Answer::Done);
     }
 }
 
@@ -203,12 +242,46 @@ fn sessions() {
         };
         let count = u32::try_from(script.lines.len()).expect("so many lines");
         let bytes = |outcome: Outcome| outcome.output.iter().map(|byte| u64::from(*byte)).sum();
-        let race = race(count, &mut || bytes(play(&mut Model, &script)), &mut || {
-            bytes(play(&mut Library, &script))
-        });
-        report(&format!("line of a session, {name}"), race);
+        let runners: [Runner<'_>; 2] =
+            [&mut || bytes(play(&mut Model, &script)), &mut || bytes(play(&mut Library, &script))];
+        let [model, in_place] = race(count, runners);
+        report(&format!("line of a session, {name}"), model, None, Some(in_place));
         let per_second = |nanoseconds: f64| 1e9 / nanoseconds;
-        let (model, proved) = (per_second(race.model), per_second(race.proved));
-        println!("{:<44} {model:>12.0} {proved:>12.0}", "    lines per second");
+        let (model, proved) = (per_second(model), per_second(in_place));
+        println!("{:<44} {model:>10.0} {:>21} {proved:>12.0}", "    lines per second", "");
     }
+}
+
+/// What a larger manager costs: the same work on one with 6 KB more, and the ratio to the plain one.
+fn grown() {
+    println!();
+    let forms = format!("{:>12} {:>10} {:>8}", "by value ns", "grown ns", "ratio");
+    let header = "manager grown by 6 KB";
+    println!("{header:<44} {forms} {:>12} {:>10} {:>8}", "in place ns", "grown ns", "ratio");
+    let (bytes, write) = (encode(&largest()), request(Operation::Write, 16));
+    let run = |jobs: JobLoop| jobs.run(&bytes, write, CALLS);
+    let (plain, grown) = (timing::JOBS_AND_CANCELS, timing::GROWN_JOBS_AND_CANCELS);
+    let by_value: [Runner<'_>; 2] = [&mut || run(plain.by_value), &mut || run(grown.by_value)];
+    let in_place: [Runner<'_>; 2] = [&mut || run(plain.in_place), &mut || run(grown.in_place)];
+    report_grown("Write accepted, and its cancel", CALLS, by_value, in_place);
+    grown_round("round, 4 writes pending", Answer::Pending);
+    grown_round("round, 4 requests of Write done", Answer::Done);
+}
+
+fn grown_round(name: &str, answer: Answer) {
+    let (plan, write) = (enduring(4, 8, 32), request(Operation::Write, JOB_LENGTH));
+    let runner = |rounds: RoundLoop| round_runner(rounds, &plan, write, answer);
+    let (plain, grown) = (timing::ROUNDS, timing::GROWN_ROUNDS);
+    let by_value: [Runner<'_>; 2] = [&mut runner(plain.by_value), &mut runner(grown.by_value)];
+    let in_place: [Runner<'_>; 2] = [&mut runner(plain.in_place), &mut runner(grown.in_place)];
+    report_grown(name, ROUNDS, by_value, in_place);
+}
+
+/// Each form plain and grown; the four race in one run.
+fn report_grown(name: &str, operations: u32, by_value: [Runner<'_>; 2], in_place: [Runner<'_>; 2]) {
+    let ([plain, grown], [plain_in_place, grown_in_place]) = (by_value, in_place);
+    let times = race(operations, [plain, grown, plain_in_place, grown_in_place]);
+    let column =
+        |plain: f64, grown: f64| format!("{plain:>12.1} {grown:>10.1} {:>8.2}", grown / plain);
+    println!("{name:<44} {} {}", column(times[0], times[1]), column(times[2], times[3]));
 }

@@ -69,26 +69,31 @@ impl From<&Request> for RequestInfo {
 impl Manager {
     /// 0 idle, 1 pending (000, 8.2.6).
     pub fn status(&self, area: u32) -> Result<u8, u8> {
-        let area = admission::known_area(&self.plan, area)?;
+        let area = admission::known_area(self.sound_plan()?, area)?;
         Ok(u8::from(self.areas[area].is_pending))
     }
 
     /// Of a pending job, the result of the one before.
     pub fn result(&self, area: u32) -> Result<u8, u8> {
-        let area = admission::known_area(&self.plan, area)?;
+        let area = admission::known_area(self.sound_plan()?, area)?;
         Ok(self.areas[area].result.number())
     }
 
     pub fn processed(&self, area: u32) -> Result<u32, u8> {
-        let area = admission::known_area(&self.plan, area)?;
+        let area = admission::known_area(self.sound_plan()?, area)?;
         Ok(narrow(self.areas[area].processed))
     }
 
     pub fn job_info(&self, area: u32) -> Result<JobInfo, u8> {
-        let area = admission::known_area(&self.plan, area)?;
+        let area = admission::known_area(self.sound_plan()?, area)?;
+        Ok(self.info_unasked(area))
+    }
+
+    /// Job info without its questions. Open for tests that make a manager wrong and look at it.
+    pub fn info_unasked(&self, area: usize) -> JobInfo {
         let state = &self.areas[area];
         let request = self.running_request(area);
-        Ok(JobInfo {
+        JobInfo {
             job_type: state.job.map_or(0, |job| job.job_type.number()),
             address: state.job.map_or(0, |job| job.target.address),
             length: state.job.map_or(0, |job| job.target.length),
@@ -96,11 +101,11 @@ impl Manager {
             processed: narrow(state.processed),
             waits: state.waits,
             request: request.as_ref().map_or(RequestInfo::default(), RequestInfo::from),
-        })
+        }
     }
 
     pub fn memory_info(&self, area: u32, address: u32) -> Result<MemoryInfo, u8> {
-        let area = admission::memory_info(&self.plan, area, address)?;
+        let area = admission::memory_info(self.sound_plan()?, area, address)?;
         let placed = segments::holder(&self.plan, area, u64::from(address))
             .expect("the address is inside the area");
         let sub_area = placed.sub_area;

@@ -18,7 +18,8 @@ enum Ending {
 
 impl Manager {
     pub fn round(&mut self, answers: [Answer; 4], image: &mut [u8], store: &mut [u8]) -> u8 {
-        if let Err(number) = admission::round(&self.plan, image.len(), store.len()) {
+        let plan = self.sound_plan();
+        if let Err(number) = plan.and_then(|p| admission::round(p, image.len(), store.len())) {
             return number;
         }
         self.take_answers(answers, image, store);

@@ -466,8 +466,10 @@ fn of_suspended_polls() -> Vec<Mutant> {
         flaw_mutant!(
             "suspended erases are polled",
             Flaw::Closed(|before, after, device| {
+                // One poll is left to it: with none the manager is not sound, and 9 alone would tell.
+                let last = after.plan().devices[device].patience - 1;
                 if let [Some(_), Some(erase), _] = round_of(before, after, device) {
-                    set_polls(after, device, erase, erase.polls + 1);
+                    set_polls(after, device, erase, last.min(erase.polls + 1));
                 }
             })
         ),

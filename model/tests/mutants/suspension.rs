@@ -213,7 +213,7 @@ fn ready(manager: &Manager, device: usize, request: &Request) -> Vec<Ready> {
         (std::cmp::Reverse(manager.plan().areas[area].priority), place)
     };
     let needs = |area: &usize| {
-        let info = info(manager, *area);
+        let info = manager.info_unasked(*area);
         let address = u64::from(info.address) + u64::from(info.processed);
         segments::device(manager.plan(), *area, address) == Some(device) && *area != request.area
     };
@@ -222,7 +222,7 @@ fn ready(manager: &Manager, device: usize, request: &Request) -> Vec<Ready> {
     let highest = areas.first().copied();
     let ready = |area: usize| Ready {
         area,
-        job_type: info(manager, area).job_type,
+        job_type: manager.info_unasked(area).job_type,
         is_highest: highest == Some(area),
         outranks: rank(area) < rank(request.area),
     };
@@ -231,14 +231,10 @@ fn ready(manager: &Manager, device: usize, request: &Request) -> Vec<Ready> {
 
 /// The request of a ready job's next piece. A lock request has none.
 fn request(manager: &Manager, ready: &Ready) -> Option<Request> {
-    let info = info(manager, ready.area);
+    let info = manager.info_unasked(ready.area);
     let operation = Operation::ALL.into_iter().find(|o| o.number() == ready.job_type)?;
     let start = u64::from(info.address);
     let rest = start + u64::from(info.processed)..start + u64::from(info.length);
     let piece = segments::next_piece(manager.plan(), operation, ready.area, rest)?;
     Some(Request { area: ready.area, operation, piece, polls: 0 })
-}
-
-fn info(manager: &Manager, area: usize) -> JobInfo {
-    manager.job_info(u32::try_from(area).expect("at most 8 areas")).expect("a known area")
 }
