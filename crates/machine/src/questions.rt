@@ -27,7 +27,7 @@ use memory::LogicalAddress;
 use memory::Refusal;
 use memory::Task;
 use plan::checks::counts_fit;
-use plan::questions::device_sum;
+use plan::checks::device_sum;
 use plan::records::Plan;
 use segment::Segment;
 use segment::no_segment;

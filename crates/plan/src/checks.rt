@@ -1,8 +1,8 @@
-// What the questions of a load ask of one record, of two records, and of the counts.
+// What the questions of a load ask of one record, of two records, and of the counts; the length of all devices.
 ghost use mathlib.Core.Path.{_≡_};
 ghost use Prim.Native.Nat.{_+_, _*_, _≤_, _<_};
 ghost use lib.Dec.{leb};
-ghost use Rattle.plan.specs.Questions.{within, countsFit, apart, deviceEnd, deviceJoins, windowEnd, windowsApart, granularityFits, sizesFit, sizeOf, endOf, insideDevice, isPlaced, subAreasApart};
+ghost use Rattle.plan.specs.Questions.{within, countsFit, lengthSum, apart, deviceEnd, deviceJoins, windowEnd, windowsApart, granularityFits, sizesFit, sizeOf, endOf, insideDevice, isPlaced, subAreasApart};
 use crate::number::is_multiple;
 use crate::records::AreaRecord;
 use crate::records::DeviceRecord;
@@ -29,6 +29,21 @@ pub fn counts_fit(devices: usize, areas: usize, sub_areas: usize) -> bool
         return false;
     }
     is_within(32, sub_areas)
+}
+
+// The length of the image.
+pub fn device_sum(devices: [DeviceRecord; 4], count: usize) -> u64
+    requires { ⌜ count ≤ 4 ⌝ }
+    ensures { λ r. ⌜ (r ≡ lengthSum devices count) × (r ≤ 17179869180) ⌝ }
+{
+    let mut sum: u64 = 0;
+    let mut i = 0;
+    while i < count {
+        let device = devices[i];
+        sum += device.length as u64;
+        i += 1;
+    }
+    sum
 }
 
 // Do the n bytes from s on and the m bytes from t on share no byte?

@@ -6,7 +6,7 @@ ghost use lib.Dec.{leb};
 ghost use Rattle.arith.specs.Bounded.{every, everyPair};
 ghost use Rattle.arith.specs.FirstNo.{firstNo};
 ghost use Rattle.memory.specs.Numbers.{admissionNumber};
-ghost use Rattle.plan.specs.Questions.{areaOf, subAreaOf, devicesJoin, lengthSum, windowEnd, windowsApart, windowsFit, allSizesFit, isPlaced, sizeOf, neverFalling, hasSubArea, sizeIn, areaSize, spaceFits, subAreasApart, allApart, countsFit, allPlaced, spacesFit, recordQuestions};
+ghost use Rattle.plan.specs.Questions.{areaOf, subAreaOf, devicesJoin, windowEnd, windowsApart, windowsFit, allSizesFit, isPlaced, sizeOf, neverFalling, hasSubArea, sizeIn, areaSize, spaceFits, subAreasApart, allApart, countsFit, allPlaced, spacesFit, recordQuestions};
 use crate::records::AreaRecord;
 use crate::records::DeviceRecord;
 use crate::records::Plan;
@@ -33,21 +33,6 @@ fn devices_join(devices: [DeviceRecord; 4], count: usize) -> bool
         i += 1;
     }
     sum <= 16777216
-}
-
-// The length of the image.
-pub fn device_sum(devices: [DeviceRecord; 4], count: usize) -> u64
-    requires { ⌜ count ≤ 4 ⌝ }
-    ensures { λ r. ⌜ (r ≡ lengthSum devices count) × (r ≤ 17179869180) ⌝ }
-{
-    let mut sum: u64 = 0;
-    let mut i = 0;
-    while i < count {
-        let device = devices[i];
-        sum += device.length as u64;
-        i += 1;
-    }
-    sum
 }
 
 fn windows_end(areas: [AreaRecord; 8], count: usize) -> bool

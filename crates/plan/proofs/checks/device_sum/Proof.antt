@@ -4,10 +4,10 @@ use native.Mathlib.Omega.{arith}
 use borrow.Author.Needs.{needs}
 use Rattle.plan.specs.Questions.{lengthSum}
 use Rattle.plan.specs.laws.SizeLaws.{length-more}
-use Rattle.plan.proofs.questions.device_sum.Statement.{statement}
-use Rattle.plan.proofs.questions.device_sum.Tie as tie
-use Rattle.plan.proofs.questions.device_sum.Reads as reads
-use Rattle.plan.proofs.questions.device_sum.Lts as lts
+use Rattle.plan.proofs.checks.device_sum.Statement.{statement}
+use Rattle.plan.proofs.checks.device_sum.Tie as tie
+use Rattle.plan.proofs.checks.device_sum.Reads as reads
+use Rattle.plan.proofs.checks.device_sum.Lts as lts
 
 abbrev Inv-loop : tie.InvT-loop
 Inv-loop count devices sum₀ i₀ sum i = (i ≤ count) × (sum ≡ lengthSum devices i) × (sum ≤ i * 4294967295)
