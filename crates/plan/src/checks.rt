@@ -64,14 +64,14 @@ fn are_apart(s: u64, n: u64, t: u64, m: u64) -> bool
 }
 
 impl DeviceRecord {
-    pub(crate) fn end(self) -> u64
+    pub fn end(self) -> u64
         ensures { λ r. ⌜ r ≡ deviceEnd self ⌝ }
     {
         (self.start as u64) + (self.length as u64)
     }
 
     // Does it start where it is due, and has it a length and a poll limit?
-    pub(crate) fn joins(self, due: u64) -> bool
+    pub fn joins(self, due: u64) -> bool
         ensures { λ r. ⌜ r ≡ deviceJoins due self ⌝ }
     {
         if self.start as u64 != due {
@@ -91,13 +91,13 @@ impl AreaRecord {
         (self.window.start as u64) + (self.window.length as u64)
     }
 
-    pub(crate) fn window_fits(self) -> bool
+    pub fn window_fits(self) -> bool
         ensures { λ r. ⌜ r ≡ leb (windowEnd self) 65536 ⌝ }
     {
         self.window_end() <= 65536
     }
 
-    pub(crate) fn is_apart(self, other: AreaRecord) -> bool
+    pub fn is_apart(self, other: AreaRecord) -> bool
         ensures { λ r. ⌜ r ≡ windowsApart self other ⌝ }
     {
         are_apart(
@@ -136,7 +136,7 @@ impl SubAreaRecord {
         (self.start as u64) + self.size()
     }
 
-    pub(crate) fn sizes_fit(self) -> bool
+    pub fn sizes_fit(self) -> bool
         ensures { λ r. ⌜ r ≡ sizesFit self ⌝ }
     {
         let erase = self.erase;
@@ -169,7 +169,7 @@ impl SubAreaRecord {
         self.end() <= device.end()
     }
 
-    pub(crate) fn is_placed(
+    pub fn is_placed(
         self,
         devices: [DeviceRecord; 4],
         device_count: usize,
@@ -191,7 +191,7 @@ impl SubAreaRecord {
         self.is_inside(devices[device])
     }
 
-    pub(crate) fn is_apart(self, other: SubAreaRecord) -> bool
+    pub fn is_apart(self, other: SubAreaRecord) -> bool
         ensures { λ r. ⌜ r ≡ subAreasApart self other ⌝ }
     {
         are_apart(
