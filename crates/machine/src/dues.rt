@@ -7,7 +7,7 @@ use crate::soundness::runner;
 use crate::soundness::state_fits;
 use jobs::is_pending;
 use memory::LogicalAddress;
-use plan::questions::device_sum;
+use plan::checks::device_sum;
 use plan::records::AreaRecord;
 use plan::records::DeviceRecord;
 use plan::records::SubAreaRecord;

@@ -24,7 +24,7 @@ use memory::Admission;
 use memory::LogicalAddress;
 use memory::Refusal;
 use plan::checks::counts_fit;
-use plan::questions::device_sum;
+use plan::checks::device_sum;
 use plan::records::Plan;
 use segment::Segment;
 use segment::no_segment;

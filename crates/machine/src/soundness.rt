@@ -7,7 +7,7 @@ ghost use Rattle.machine.specs.laws.Dues.{runnerOf, stateFits, runningSe
 use admission::uses_window;
 use jobs::is_pending;
 use plan::checks::counts_fit;
-use plan::questions::device_sum;
+use plan::checks::device_sum;
 use plan::records::AreaRecord;
 use plan::records::DeviceRecord;
 use plan::records::Plan;

@@ -3,5 +3,4 @@ pub mod Accepted
 pub mod RecordLaws
 pub mod QuestionLaws
 pub mod SizeLaws
-pub mod LoadLaws
 pub mod NumberLaws

@@ -1,8 +1,8 @@
-// What the questions of a load ask of one record, of two records, and of the counts.
+// What the questions of a load ask of one record, of two records, and of the counts; the length of all devices.
 ghost use mathlib.Core.Path.{_≡_};
 ghost use Prim.Native.Nat.{_+_, _*_, _≤_, _<_};
 ghost use lib.Dec.{leb};
-ghost use Rattle.plan.specs.Questions.{within, countsFit, apart, deviceEnd, deviceJoins, windowEnd, windowsApart, granularityFits, sizesFit, sizeOf, endOf, insideDevice, isPlaced, subAreasApart};
+ghost use Rattle.plan.specs.Questions.{within, countsFit, lengthSum, apart, deviceEnd, deviceJoins, windowEnd, windowsApart, granularityFits, sizesFit, sizeOf, endOf, insideDevice, isPlaced, subAreasApart};
 use crate::number::is_multiple;
 use crate::records::AreaRecord;
 use crate::records::DeviceRecord;
@@ -31,6 +31,21 @@ pub fn counts_fit(devices: usize, areas: usize, sub_areas: usize) -> bool
     is_within(32, sub_areas)
 }
 
+// The length of the image.
+pub fn device_sum(devices: [DeviceRecord; 4], count: usize) -> u64
+    requires { ⌜ count ≤ 4 ⌝ }
+    ensures { λ r. ⌜ (r ≡ lengthSum devices count) × (r ≤ 17179869180) ⌝ }
+{
+    let mut sum: u64 = 0;
+    let mut i = 0;
+    while i < count {
+        let device = devices[i];
+        sum += device.length as u64;
+        i += 1;
+    }
+    sum
+}
+
 // Do the n bytes from s on and the m bytes from t on share no byte?
 fn are_apart(s: u64, n: u64, t: u64, m: u64) -> bool
     requires { ⌜ (s + n ≤ 18446744073709551615) × (t + m ≤ 18446744073709551615) ⌝ }
@@ -49,14 +64,14 @@ fn are_apart(s: u64, n: u64, t: u64, m: u64) -> bool
 }
 
 impl DeviceRecord {
-    pub(crate) fn end(self) -> u64
+    pub fn end(self) -> u64
         ensures { λ r. ⌜ r ≡ deviceEnd self ⌝ }
     {
         (self.start as u64) + (self.length as u64)
     }
 
     // Does it start where it is due, and has it a length and a poll limit?
-    pub(crate) fn joins(self, due: u64) -> bool
+    pub fn joins(self, due: u64) -> bool
         ensures { λ r. ⌜ r ≡ deviceJoins due self ⌝ }
     {
         if self.start as u64 != due {
@@ -76,13 +91,13 @@ impl AreaRecord {
         (self.window.start as u64) + (self.window.length as u64)
     }
 
-    pub(crate) fn window_fits(self) -> bool
+    pub fn window_fits(self) -> bool
         ensures { λ r. ⌜ r ≡ leb (windowEnd self) 65536 ⌝ }
     {
         self.window_end() <= 65536
     }
 
-    pub(crate) fn is_apart(self, other: AreaRecord) -> bool
+    pub fn is_apart(self, other: AreaRecord) -> bool
         ensures { λ r. ⌜ r ≡ windowsApart self other ⌝ }
     {
         are_apart(
@@ -121,7 +136,7 @@ impl SubAreaRecord {
         (self.start as u64) + self.size()
     }
 
-    pub(crate) fn sizes_fit(self) -> bool
+    pub fn sizes_fit(self) -> bool
         ensures { λ r. ⌜ r ≡ sizesFit self ⌝ }
     {
         let erase = self.erase;
@@ -154,7 +169,7 @@ impl SubAreaRecord {
         self.end() <= device.end()
     }
 
-    pub(crate) fn is_placed(
+    pub fn is_placed(
         self,
         devices: [DeviceRecord; 4],
         device_count: usize,
@@ -176,7 +191,7 @@ impl SubAreaRecord {
         self.is_inside(devices[device])
     }
 
-    pub(crate) fn is_apart(self, other: SubAreaRecord) -> bool
+    pub fn is_apart(self, other: SubAreaRecord) -> bool
         ensures { λ r. ⌜ r ≡ subAreasApart self other ⌝ }
     {
         are_apart(

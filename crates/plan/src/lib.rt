@@ -1,7 +1,5 @@
-// A plan: its records, how they are read from bytes, and the eight questions that a load asks.
+// A plan: its records, how they are read from bytes, and what the questions of a load ask of them one by one.
 pub mod checks;
-pub mod load;
 pub mod number;
-pub mod questions;
 pub mod records;
 pub mod scan;

@@ -245,7 +245,7 @@ fn read_sub_areas(bytes: &[u8], from: usize, count: usize) -> [SubAreaRecord; 32
 }
 
 impl Plan {
-    pub(crate) fn empty() -> Plan
+    pub fn empty() -> Plan
         ensures { λ r. ⌜ r ≡ emptyPlan ⌝ }
     {
         Plan {

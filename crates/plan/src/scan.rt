@@ -71,7 +71,7 @@ pub struct RecordLayout {
     pub end: usize,
 }
 
-pub(crate) fn record_layout(bytes: &[u8]) -> RecordLayout
+pub fn record_layout(bytes: &[u8]) -> RecordLayout
     ensures { λ r. ⌜ r ≡ recordLayout (now (bytes .entry)) ⌝ }
     ensures { λ r. ⌜ r .end ≤ length (now (bytes .entry)) ⌝ }
 {

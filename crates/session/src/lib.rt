@@ -15,7 +15,7 @@ mod play;
 use crate::fold::Progress;
 use crate::fold::play_lines;
 use manager::Manager;
-use plan::questions::device_sum;
+use plan::checks::device_sum;
 use texts::number_line;
 use texts::question_line;
 

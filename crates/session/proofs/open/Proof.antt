@@ -9,7 +9,7 @@ use Rattle.session.proofs.open.Reads as reads
 use Rattle.session.proofs.open.Lts as lts
 use Rattle.manager.proofs.Manager.load.Reads as load-reads
 use Rattle.memory.proofs.Admission.number.Reads as number-reads
-use Rattle.plan.proofs.questions.device_sum.Reads as device-sum-reads
+use Rattle.plan.proofs.checks.device_sum.Reads as device-sum-reads
 use Rattle.session.proofs.Opened.closed.Reads as closed-reads
 use Rattle.texts.proofs.number_line.Reads as number-line-reads
 use Rattle.texts.proofs.question_line.Reads as question-line-reads

@@ -12,7 +12,7 @@ use Rattle.machine.proofs.dues.states_fit.Reads as reads
 use Rattle.machine.proofs.dues.states_fit.Lts as lts
 use Rattle.machine.proofs.soundness.runner.Reads as runner-reads
 use Rattle.machine.proofs.soundness.state_fits.Reads as state-fits-reads
-use Rattle.plan.proofs.questions.device_sum.Reads as device-sum-reads
+use Rattle.plan.proofs.checks.device_sum.Reads as device-sum-reads
 
 abbrev Inv-loop : tie.InvT-loop
 Inv-loop device-count area-count device-records area-records areas devices dues sum d₀ d = (d ≤ device-count) × (every (fitsIn device-records device-count area-records area-count areas devices dues) d ≡ true)

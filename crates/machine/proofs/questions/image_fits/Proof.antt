@@ -4,7 +4,7 @@ use Rattle.machine.proofs.questions.image_fits.Statement.{statement}
 use Rattle.machine.proofs.questions.image_fits.Tie as tie
 use Rattle.machine.proofs.questions.image_fits.Reads as reads
 use Rattle.machine.proofs.questions.image_fits.Lts as lts
-use Rattle.plan.proofs.questions.device_sum.Reads as device-sum-reads
+use Rattle.plan.proofs.checks.device_sum.Reads as device-sum-reads
 
 device-sum-requires : tie.Need-device-sum-requires
 device-sum-requires c κs = search needs

@@ -14,7 +14,7 @@ use Rattle.machine.proofs.soundness.devices_sound.Lts as lts
 use Rattle.machine.proofs.soundness.runner.Reads as runner-reads
 use Rattle.machine.proofs.soundness.running_segment.Reads as running-segment-reads
 use Rattle.machine.proofs.soundness.state_fits.Reads as state-fits-reads
-use Rattle.plan.proofs.questions.device_sum.Reads as device-sum-reads
+use Rattle.plan.proofs.checks.device_sum.Reads as device-sum-reads
 
 abbrev Inv-loop : tie.InvT-loop
 Inv-loop plan areas devices device-records area-records sum d₀ d = (d ≤ plan .«device_count») × (device-records ≡ plan .devices) × (area-records ≡ plan .areas) × (every (λ k. stateSound plan k (jobIn areas) (stateIn devices k)) d ≡ true)

@@ -12,7 +12,7 @@ use Rattle.manager.proofs.Manager.load.Tie as tie
 use Rattle.manager.proofs.Manager.load.Reads as reads
 use Rattle.manager.proofs.Manager.load.Lts as lts
 use Rattle.manager.proofs.Manager.fresh.Reads as fresh-reads
-use Rattle.plan.proofs.load.load_plan.Reads as load-plan-reads
+use Rattle.loading.proofs.load_plan.Reads as load-plan-reads
 
 load-plan-requires : tie.Need-load-plan-requires
 load-plan-requires c κs = search needs
