@@ -1,20 +1,14 @@
 // The close of a round: each job that was pending before it and still is adds 1 to one count.
-ghost use mathlib.Core.List.{[]};
 ghost use mathlib.Core.Path.{_≡_};
-ghost use Prim.Native.Nat.{_<_};
-ghost use Rattle.machine.specs.Sound.{coreIn};
 ghost use Rattle.plan.specs.Questions.{areaOf};
 ghost use Rattle.rules.specs.Machine.{waitBehind, waitOn};
-ghost use Rattle.rounds.specs.Close.{stick, counted, areasAfter};
+ghost use Rattle.rounds.specs.Close.{stick, counted};
 ghost use Rattle.rounds.specs.laws.CloseLaws.{waitIs, rankLayout, closedArea};
-ghost use Rattle.rounds.specs.laws.Picks.{needsLayout};
 use jobs::is_pending;
 use jobs::ranks::age_of;
 use jobs::ranks::ranks_above;
-use machine::devices::state_on;
 use plan::records::AreaRecord;
 use state::Area;
-use state::Device;
 use state::DeviceState;
 use state::Waits;
 
@@ -109,7 +103,7 @@ fn wait_on(records: [AreaRecord; 8], ages: [u8; 8], area: u8, state: DeviceState
 }
 
 // An area when the round closes; `state` is that of the device that its job needs.
-fn closed_area(
+pub(crate) fn closed_area(
     records: [AreaRecord; 8],
     ages: [u8; 8],
     number: u8,
@@ -131,25 +125,4 @@ fn closed_area(
     let wait = wait_on(records, ages, number, state);
     let waits = counted(wait, waits);
     Area { job, waits }
-}
-
-// All areas when the round closes: `before` are those before it, `after` those after both halves.
-pub(crate) fn close(
-    records: [AreaRecord; 8],
-    ages: [u8; 8],
-    needs: [u8; 8],
-    before: [Area; 8],
-    after: [Area; 8],
-    devices: [Device; 4],
-) -> [Area; 8]
-    ensures { λ r. ⌜ r ≡ areasAfter (needsLayout records ages 0 [] needs) before (coreIn after devices) ⌝ }
-{
-    let mut areas = [Area::fresh(); 8];
-    let mut a = 0;
-    while a < 8 {
-        let state = state_on(devices, needs[a] as usize);
-        areas[a] = closed_area(records, ages, a as u8, before[a], after[a], state);
-        a += 1;
-    }
-    areas
 }

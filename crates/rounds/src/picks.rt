@@ -1,22 +1,18 @@
-// The second half of a round: every device that is free, or has an erase that can give way, picks the highest ranked job that needs it.
+// The second half of a round: a device that is free, or has an erase that can give way, picks the highest ranked job that needs it.
 ghost use mathlib.Core.Bool.{_&&_};
 ghost use mathlib.Core.Path.{_≡_};
 ghost use Prim.Native.Nat.{_≤_, _<_};
 ghost use lib.Dec.{eqb};
 ghost use Rattle.arith.specs.Cases.{pick};
-ghost use Rattle.machine.specs.Sound.{coreIn};
-ghost use Rattle.rules.specs.Machine.{isPending, displaces, secondHalf};
-ghost use Rattle.rounds.specs.laws.Picks.{needsOf, betterOf, bestTo, readyIn, freeSlot, runningSlot, slotOf, isTaken, chosenIn, startOf, startFree, eraseWith, startWith, needsLayout};
+ghost use Rattle.rules.specs.Machine.{isPending, displaces};
+ghost use Rattle.rounds.specs.laws.Picks.{needsOf, betterOf, bestTo, readyIn, freeSlot, runningSlot, slotOf, isTaken, chosenIn, startOf, startFree, eraseWith, startWith};
 ghost use Rattle.rounds.specs.declared.picks.Best.the-variants.{Nobody};
-use crate::answers::Arrays;
 use jobs::ended;
 use jobs::is_pending;
 use jobs::ranks::ranks_above;
-use machine::soundness::runner;
 use memory::JobResult;
 use memory::JobType;
 use plan::records::AreaRecord;
-use plan::records::DeviceRecord;
 use segment::Segment;
 use segment::is_erase;
 use segment::is_lock;
@@ -151,7 +147,7 @@ fn running_slot(kind: JobType, area: u8, polls: u16, suspended: Suspended) -> Sl
 }
 
 // `running` is the area whose request the device runs, or any.
-fn slot_on(suspends: bool, running: Area, device: Device) -> Slot
+pub(crate) fn slot_on(suspends: bool, running: Area, device: Device) -> Slot
     ensures { λ r. ⌜ r ≡ slotOf suspends (running .job .task .kind) (device .state) (device .suspended) ⌝ }
 {
     let state = device.state;
@@ -182,7 +178,7 @@ fn is_taken(slot: Slot) -> bool
 }
 
 // The choice for what a device has.
-fn pick_area(
+pub(crate) fn pick_area(
     slot: Slot,
     records: [AreaRecord; 8],
     ages: [u8; 8],
@@ -201,7 +197,7 @@ fn pick_area(
 }
 
 // The area chosen; 0 where none is that a manager has.
-fn chosen(best: Best) -> usize
+pub(crate) fn chosen(best: Best) -> usize
     ensures { λ r. ⌜ r ≡ chosenIn best ⌝ }
     ensures { λ r. ⌜ r < 8 ⌝ }
 {
@@ -305,7 +301,7 @@ fn erase_or(area: u8, polls: u16, kind: JobType, best: Best) -> Device
     }
 }
 
-fn start_choice(slot: Slot, best: Best, entry: Area, device: Device) -> Start
+pub(crate) fn start_choice(slot: Slot, best: Best, entry: Area, device: Device) -> Start
     ensures { λ r. ⌜ r ≡ startWith slot best entry device ⌝ }
 {
     match slot {
@@ -325,37 +321,4 @@ fn start_choice(slot: Slot, best: Best, entry: Area, device: Device) -> Start
             }
         }
     }
-}
-
-// The first devices pick, in their order. Left open are the waits, which the close takes from before the round.
-pub(crate) fn second_half(
-    records: [AreaRecord; 8],
-    ages: [u8; 8],
-    count: usize,
-    device_records: [DeviceRecord; 4],
-    needs: [u8; 8],
-    device_count: usize,
-    mut areas: [Area; 8],
-    mut devices: [Device; 4],
-) -> Arrays
-    requires { ⌜ (count ≤ 8) × («device_count» ≤ 4) ⌝ }
-    ensures { λ r. ⌜ coreIn (r .areas) (r .devices) ≡ secondHalf (needsLayout records ages count «device_records» needs) «device_count» (coreIn areas devices) ⌝ }
-{
-    let mut d = 0;
-    while d < device_count {
-        let device = devices[d];
-        let state = device.state;
-        let record = device_records[d];
-        let slot = slot_on(record.suspends, areas[runner(state)], device);
-        let best = pick_area(slot, records, ages, count, needs, areas, d);
-        // without a choice any area will do: it stays as it is
-        let area = chosen(best);
-        let start = start_choice(slot, best, areas[area], device);
-        let entry = start.area;
-        let device = start.device;
-        areas[area] = entry;
-        devices[d] = device;
-        d += 1;
-    }
-    Arrays { areas, devices }
 }

@@ -32,6 +32,7 @@ use Rattle.state.specs.declared.Job.{Job}
 use Rattle.requests.specs.Effects.{lentEnd}
 use Rattle.requests.specs.Requests.{takenState, takenWith, dueWith, nextOf, Fits, request-fits, job-taken, due-taken, state-taken, memory-taken, found-fits}
 use Rattle.rounds.specs.laws.AnswerLaws.{core-kept, free-core, free-memory, locked-core, locked-memory, runs-core, runs-memory}
+use Rattle.rounds.specs.laws.Halves.{both}
 use Rattle.rounds.specs.Close.{lentTo}
 
 -- image and store hold what a running request needs of them
@@ -171,16 +172,19 @@ module _ (p : Plan) (few : p .«area_count» ≤ 8) (d : ℕ) (y : DeviceAnswer)
     pub lent-turn : Lent (areaOf records k) (entry k) (due k) image store (stateIn devices d)
     lent-turn = rw records-are (turn-lent (stateIn devices d) refl k k-is)
 
-    pub memory-turn : (i t : List ℕ) → i ≡ turnMemory (areaOf records k) (deviceOf holders d) (entry k) (due k) y m (stateIn devices d) .image →
-        t ≡ turnMemory (areaOf records k) (deviceOf holders d) (entry k) (due k) y m (stateIn devices d) .store →
-        record { image = i; store = t } ≡ takeIn p d y (lentTo areas devices m) .memory
-    memory-turn i t =
-        rw (records-are, holders-are) (λ e f. (λ h. record { image = e h; store = f h }) ∙ turn-memory (stateIn devices d) refl k k-is)
-
-    pub core-turn : length areas ≡ 8 → length devices ≡ 4 → length dues ≡ 8 → d < 4 → (r : Area) (s : Segment) (z : Device) →
+    -- what the turn leaves: arrays and memory are those of the rules, and the due segments go along
+    pub whole-turn : length areas ≡ 8 → length devices ≡ 4 → length dues ≡ 8 → d < 4 → (r : Area) (s : Segment) (z : Device) (i t : List ℕ) →
         r ≡ turnArea l (p .«sub_area_count») (areaOf records k) (deviceOf holders d) (entry k) (due k) y m (stateIn devices d) →
         s ≡ turnDue l (p .«sub_area_count») (areaOf records k) (entry k) (due k) y m (stateIn devices d) →
         z ≡ doing (turnState (areaOf records k) (deviceOf holders d) (entry k) (due k) y m (stateIn devices d)) (deviceIn devices d) →
-        (coreIn (set areas k r) (set devices d z) ≡ takeIn p d y (lentTo areas devices m) .core) × Due p (set dues k s) (jobIn (set areas k r))
-    core-turn areas-are devices-are dues-are there r s z =
-        rw (l-is, records-are, holders-are) (turn-core areas-are devices-are dues-are there (stateIn devices d) refl k k-is r s z)
+        i ≡ turnMemory (areaOf records k) (deviceOf holders d) (entry k) (due k) y m (stateIn devices d) .image →
+        t ≡ turnMemory (areaOf records k) (deviceOf holders d) (entry k) (due k) y m (stateIn devices d) .store →
+        ((coreIn (set areas k r) (set devices d z), record { image = i; store = t }) ≡ both (takeIn p d y (lentTo areas devices m)))
+        × Due p (set dues k s) (jobIn (set areas k r))
+    whole-turn areas-are devices-are dues-are there r s z i t =
+        rw (l-is, records-are, holders-are)
+        (λ g h j e f.
+        let turn = turn-core areas-are devices-are dues-are there (stateIn devices d) refl k k-is r s z g h j in
+        let memory : record { image = i; store = t } ≡ takeIn p d y (lentTo areas devices m) .memory =
+        (λ n. record { image = e n; store = f n }) ∙ turn-memory (stateIn devices d) refl k k-is in
+        ((λ n. (turn .0 n, memory n)), turn .1))
