@@ -6,7 +6,7 @@ ghost use Prim.Native.Nat.{_<_};
 ghost use Rattle.memory.specs.declared.JobType.the-variants.{Write, Read, Compare, Erase, BlankCheck, Lock};
 ghost use Rattle.manager.specs.Calls.{withArea, withAccepted, withDevice, jobNumberOf, afterJob, releaseNumberOf, afterRelease, cancelNumberOf, afterCancel, infoNumberOf, statusOf, resultOf, processedOf, noJobInfo, infoOf, jobTypeOf, memoryInfoNumberOf, memoryOfArea, roundNumberOf, afterRound, memoryAfterRound};
 ghost use Rattle.machine.specs.Sound.{jobIn, deviceIn};
-ghost use Rattle.rounds.specs.Close.{waitsIn};
+ghost use Rattle.turns.specs.Close.{waitsIn};
 ghost use Rattle.rules.specs.Machine.{doing};
 ghost use Rattle.requests.specs.Effects.{memoryOf};
 ghost use Rattle.manager.specs.Load.{freshManager, loadedManager};

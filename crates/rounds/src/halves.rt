@@ -5,16 +5,10 @@ ghost use Rattle.machine.specs.laws.Dues.{Due};
 ghost use Rattle.machine.specs.Sound.{jobIn, isSound};
 ghost use Rattle.rules.specs.Admission.{imageFits, storeReaches};
 ghost use Rattle.rules.specs.Layout.{layoutAt};
-ghost use Rattle.rounds.specs.Close.{areasAfter, devicesAfter, halvesOf};
+ghost use Rattle.turns.specs.Close.{areasAfter, devicesAfter, halvesOf};
+ghost use Rattle.rounds.specs.laws.NeedLaws.{needsOf};
 ghost use Rattle.requests.specs.Effects.{memoryOf};
 ghost use Rattle.state.specs.Ages.{ageIn};
-use crate::answers::take_answer;
-use crate::close::closed_area;
-use crate::picks::chosen;
-use crate::picks::needed_devices;
-use crate::picks::pick_area;
-use crate::picks::slot_on;
-use crate::picks::start_choice;
 use machine::devices::state_on;
 use machine::soundness::runner;
 use memory::DeviceAnswer;
@@ -22,11 +16,31 @@ use plan::records::Plan;
 use segment::Segment;
 use state::Area;
 use state::Device;
+use turns::answers::take_answer;
+use turns::close::closed_area;
+use turns::picks::chosen;
+use turns::picks::pick_area;
+use turns::picks::slot_on;
+use turns::picks::start_choice;
 
 // What moves in a manager.
 pub struct Arrays {
     pub areas: [Area; 8],
     pub devices: [Device; 4],
+}
+
+// The devices that the pending jobs need: those of their due segments.
+fn needed_devices(dues: [Segment; 8]) -> [u8; 8]
+    ensures { λ r. ⌜ r ≡ needsOf dues ⌝ }
+{
+    let mut needs = [0u8; 8];
+    let mut a = 0;
+    while a < 8 {
+        let due = dues[a];
+        needs[a] = due.device;
+        a += 1;
+    }
+    needs
 }
 
 // Both halves, then the close; `dues` are the due segments of the pending jobs, and go with their jobs. The loops stand in one

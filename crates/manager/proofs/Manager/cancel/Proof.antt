@@ -1,4 +1,4 @@
-use Rattle.rounds.specs.Close.{waitsIn}
+use Rattle.turns.specs.Close.{waitsIn}
 use Rattle.manager.specs.Calls.{withArea}
 use Rattle.manager.specs.laws.CallLaws.{refused-some, cancel-number, cancel-few, cancel-refused, cancel-accepted}
 use Rattle.machine.specs.laws.SoundCases.{sound-few}
