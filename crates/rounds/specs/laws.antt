@@ -1,7 +1,6 @@
 pub mod Halves
 pub mod AnswerLaws
 pub mod Turns
-pub mod Picks
 pub mod PickLaws
 pub mod CloseLaws
 pub mod NeedLaws

@@ -5,28 +5,53 @@ ghost use Rattle.machine.specs.laws.Dues.{Due};
 ghost use Rattle.machine.specs.Sound.{jobIn, isSound};
 ghost use Rattle.rules.specs.Admission.{imageFits, storeReaches};
 ghost use Rattle.rules.specs.Layout.{layoutAt};
-ghost use Rattle.rounds.specs.Close.{areasAfter, devicesAfter, halvesOf};
+ghost use Rattle.turns.specs.Close.{areasAfter, devicesAfter, halvesOf};
+ghost use Rattle.rounds.specs.laws.NeedLaws.{needsOf};
 ghost use Rattle.requests.specs.Effects.{memoryOf};
 ghost use Rattle.state.specs.Ages.{ageIn};
-use crate::answers::Arrays;
-use crate::answers::first_half;
-use crate::close::close;
-use crate::picks::needed_devices;
-use crate::picks::second_half;
+use machine::devices::state_on;
+use machine::soundness::runner;
 use memory::DeviceAnswer;
 use plan::records::Plan;
 use segment::Segment;
 use state::Area;
 use state::Device;
+use turns::answers::take_answer;
+use turns::close::closed_area;
+use turns::picks::chosen;
+use turns::picks::pick_area;
+use turns::picks::slot_on;
+use turns::picks::start_choice;
 
-// Both halves, then the close; `dues` are the due segments of the pending jobs.
+// What moves in a manager.
+pub struct Arrays {
+    pub areas: [Area; 8],
+    pub devices: [Device; 4],
+}
+
+// The devices that the pending jobs need: those of their due segments.
+fn needed_devices(dues: [Segment; 8]) -> [u8; 8]
+    ensures { λ r. ⌜ r ≡ needsOf dues ⌝ }
+{
+    let mut needs = [0u8; 8];
+    let mut a = 0;
+    while a < 8 {
+        let due = dues[a];
+        needs[a] = due.device;
+        a += 1;
+    }
+    needs
+}
+
+// Both halves, then the close; `dues` are the due segments of the pending jobs, and go with their jobs. The loops stand in one
+// function, which sets an entry at a time, since an array that goes through a call is copied.
 pub fn run_round(
     plan: Plan,
     answers: [DeviceAnswer; 4],
-    areas: [Area; 8],
-    devices: [Device; 4],
+    mut areas: [Area; 8],
+    mut devices: [Device; 4],
     ages: [u8; 8],
-    dues: [Segment; 8],
+    mut dues: [Segment; 8],
     image: &mut [u8],
     store: &mut [u8],
 ) -> Arrays
@@ -36,25 +61,59 @@ pub fn run_round(
     ensures { λ _. ⌜ now (image .exit) ≡ halvesOf plan areas devices ages answers (memoryOf (now (image .entry)) (now (store .entry))) .memory .image ⌝ }
     ensures { λ _. ⌜ now (store .exit) ≡ halvesOf plan areas devices ages answers (memoryOf (now (image .entry)) (now (store .entry))) .memory .store ⌝ }
 {
-    let first = first_half(plan, answers, areas, devices, dues, image, store);
-    let taken = first.areas;
-    let free = first.devices;
-    let due = first.dues;
-    let needs = needed_devices(due);
+    // the close counts from these waits
+    let before = areas;
+    let sub_areas = plan.sub_areas;
     let records = plan.areas;
     let device_records = plan.devices;
-    let second = second_half(
-        records,
-        ages,
-        plan.area_count,
-        device_records,
-        needs,
-        plan.device_count,
-        taken,
-        free,
-    );
-    let started = second.areas;
-    let devices = second.devices;
-    let areas = close(records, ages, needs, areas, started, devices);
+    let mut d = 0;
+    while d < plan.device_count {
+        let device = devices[d];
+        let state = device.state;
+        // the area that its request is for, or any: without a request it stays as it is
+        let area = runner(state);
+        let turn = take_answer(
+            sub_areas,
+            plan.sub_area_count,
+            records[area],
+            device_records[d],
+            areas[area],
+            dues[area],
+            device,
+            answers[d],
+            image,
+            store,
+        );
+        let entry = turn.area;
+        let due = turn.due;
+        let device = turn.device;
+        areas[area] = entry;
+        dues[area] = due;
+        devices[d] = device;
+        d += 1;
+    }
+    let needs = needed_devices(dues);
+    let mut e = 0;
+    while e < plan.device_count {
+        let device = devices[e];
+        let state = device.state;
+        let record = device_records[e];
+        let slot = slot_on(record.suspends, areas[runner(state)], device);
+        let best = pick_area(slot, records, ages, plan.area_count, needs, areas, e);
+        // without a choice any area will do: it stays as it is
+        let area = chosen(best);
+        let start = start_choice(slot, best, areas[area], device);
+        let entry = start.area;
+        let device = start.device;
+        areas[area] = entry;
+        devices[e] = device;
+        e += 1;
+    }
+    let mut a = 0;
+    while a < 8 {
+        let state = state_on(devices, needs[a] as usize);
+        areas[a] = closed_area(records, ages, a as u8, before[a], areas[a], state);
+        a += 1;
+    }
     Arrays { areas, devices }
 }

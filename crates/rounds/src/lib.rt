@@ -1,5 +1,2 @@
 // A round in code: what the devices' answers do to jobs and lent memory, which jobs start, and the counts when it closes.
-pub mod answers;
-pub mod close;
 pub mod halves;
-pub mod picks;

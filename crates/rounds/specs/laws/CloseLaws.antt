@@ -1,68 +1,27 @@
 -- The close of a round, as the code goes.
-use Prim.Native.Nat.{ℕ, _≤_}
-use mathlib.Core.Bool.{true, false}
+use Prim.Native.Nat.{ℕ, _+_, _≤_, _<_}
 use mathlib.Core.List.{List, []}
-use mathlib.Core.Path.{_≡_, refl, sym, ap, _∙_}
-use borrow.Author.Tests.{eq-eqb, ne-eqb}
-use lib.ListN.{length, getD, List·getD-eq-default}
+use mathlib.Core.Path.{_≡_, refl, ap, _∙_}
+use lib.ListN.{length, length-set, getD, set}
 use native.Mathlib.Omega.{arith}
+use Rattle.arith.specs.Parts.{upd-case}
+use Rattle.arith.specs.Tables.{table-whole}
+use Rattle.machine.specs.laws.Arrays.{view-set}
 use Rattle.machine.specs.Sound.{jobIn, stateIn, coreIn}
-use Rattle.plan.specs.Questions.{areaOf}
-use Rattle.plan.specs.Records.{noArea}
 use Rattle.plan.specs.declared.records.AreaRecord.{AreaRecord}
 use Rattle.rules.specs.Layout.{Layout}
 use Rattle.rules.specs.Machine as Machine
-use Rattle.rules.specs.Ranks.{rankAbove}
-use Rattle.state.specs.Ages.{ageIn}
+use Rattle.rules.specs.Machine.{Core}
 use Rattle.state.specs.Fresh.{freshArea}
 use Rattle.state.specs.declared.Area.{Area}
 use Rattle.state.specs.declared.Device.{Device}
 use Rattle.state.specs.declared.DeviceState.{DeviceState}
 use Rattle.state.specs.declared.DeviceState.the-variants.{Free, Runs, LockedFor}
-use Rattle.rounds.specs.Close.{closed, waitsIn, areaAfter}
-use Rattle.rounds.specs.laws.Picks.{needsLayout}
-use Rattle.rounds.specs.declared.close.Wait.{Wait}
-use Rattle.rounds.specs.declared.close.Wait.the-variants as Waiting
+use Rattle.turns.specs.Close.{closed, waitsIn, areaAfter, areasAfter}
+use Rattle.turns.specs.laws.Picks.{needsLayout}
+use Rattle.turns.specs.laws.Waits.{rankLayout, closedArea}
 
-abbrev pub waitIs : Wait → Machine.Wait
-waitIs Waiting.Own = Machine.own
-waitIs Waiting.Above = Machine.above
-waitIs Waiting.Below = Machine.below
-waitIs Waiting.Locked = Machine.locked
-waitIs Waiting.Nothing = Machine.none
-
--- what the rank of areas asks of a plan
-abbrev pub rankLayout : List AreaRecord → List ℕ → Layout
-rankLayout records ages = needsLayout records ages 0 [] []
-
--- an area when the round closes, by the state of the device that its job needs
-abbrev pub closedArea : List AreaRecord → List ℕ → ℕ → Area → Area → DeviceState → Area
-closedArea records ages a before after x =
-    record {
-      job = after .job;
-      waits = closed (Machine.isPending (before .job)) (Machine.isPending (after .job)) (Machine.waitOn (rankLayout records ages) a x) (before .waits);
-    }
-
--- an area that the plan's array has no record of
-pub no-priority : (records : List AreaRecord) (a n : ℕ) → length records ≡ n → n ≤ a → 0 ≡ areaOf records a .priority
-no-priority records a n e h = sym (ap (λ x. x .priority) (List·getD-eq-default records noArea (omega (arith, e, h))))
-
-module _ (records : List AreaRecord) (ages : List ℕ) (a b : ℕ) where
-  pub behind-own : b ≡ a → Machine.own ≡ Machine.waitBehind (rankLayout records ages) a b
-  unfolding Machine.waitBehind
-  behind-own e = rw (eq-eqb b a e)
-
-  module _ (other : b ≡ a → ⊥) (p q : ℕ) (is : p ≡ areaOf records b .priority) (at : q ≡ areaOf records a .priority)
-      (x y : ℕ) (old : x ≡ ageIn ages b) (young : y ≡ ageIn ages a) where
-    pub behind-above : rankAbove p x q y ≡ true → Machine.above ≡ Machine.waitBehind (rankLayout records ages) a b
-    unfolding Machine.waitBehind needsLayout
-    behind-above e = rw (ne-eqb b a other, ← is, ← at, ← old, ← young, e)
-
-    pub behind-below : rankAbove p x q y ≡ false → Machine.below ≡ Machine.waitBehind (rankLayout records ages) a b
-    unfolding Machine.waitBehind needsLayout
-    behind-below e = rw (ne-eqb b a other, ← is, ← at, ← old, ← young, e)
-
--- the same by the layout with the needs
+-- what a job waits for, by the layout with the needs
 wait-same : (records : List AreaRecord) (ages needs : List ℕ) (a : ℕ) (x : DeviceState) →
     Machine.waitOn (rankLayout records ages) a x ≡ Machine.waitOn (needsLayout records ages 0 [] needs) a x
 unfolding Machine.waitBehind needsLayout
@@ -77,3 +36,35 @@ unfolding needsLayout
 close-turn records ages needs before after devices a x e =
     ap (λ k. record { job = jobIn after a; waits = closed (Machine.isPending (jobIn before a)) (Machine.isPending (jobIn after a)) k (waitsIn before a) })
     (ap (Machine.waitOn (rankLayout records ages) a) e ∙ wait-same records ages needs a (stateIn devices (getD needs a 0)))
+
+-- the first n areas are closed, in their place; the others are as the halves left them
+abbrev pub ClosedTo : (ℕ → Area) → List Area → ℕ → List Area → Type 0
+ClosedTo f after n l =
+    (length l ≡ 8) × ((k : ℕ) → k < n → getD l k freshArea ≡ f k) × ((k : ℕ) → n ≤ k → getD l k freshArea ≡ getD after k freshArea)
+
+pub closed-none : (f : ℕ → Area) (after : List Area) → length after ≡ 8 → ClosedTo f after 0 after
+closed-none f after e = (e, λ k h. absurd (omega arith), λ k h. refl)
+
+-- one area more
+closed-more : (f : ℕ → Area) (after : List Area) (n : ℕ) (l : List Area) (x : Area) → n < 8 → x ≡ f n → ClosedTo f after n l → ClosedTo f after (n + 1) (set l n x)
+closed-more f after n l x h e c = (
+  rw length-set (c .0),
+  λ k m. view-set (λ y. y) l freshArea n x (omega (arith, c .0)) k
+      ∙ upd-case (λ y. y ≡ f k) (λ i. getD l i freshArea) n k x (λ same. e ∙ ap f same) (λ apart. c .1 k (omega (arith, apart))),
+  λ k m. view-set (λ y. y) l freshArea n x (omega (arith, c .0)) k
+      ∙ upd-case (λ y. y ≡ getD after k freshArea) (λ i. getD l i freshArea) n k x (λ same. absurd (omega (arith, same))) (λ _. c .2 k (omega arith)),
+)
+
+-- a turn of the loop over the areas
+pub closed-turn : (records : List AreaRecord) (ages needs : List ℕ) (before after : List Area) (devices : List Device) (a : ℕ) (l : List Area) →
+    ClosedTo (areaAfter (needsLayout records ages 0 [] needs) before (coreIn after devices)) after a l → a < 8 →
+    (x : DeviceState) → x ≡ stateIn devices (getD needs a 0) → (r : Area) → r ≡ closedArea records ages a (getD before a freshArea) (getD l a freshArea) x →
+    ClosedTo (areaAfter (needsLayout records ages 0 [] needs) before (coreIn after devices)) after (a + 1) (set l a r)
+closed-turn records ages needs before after devices a l c h x e r f =
+    closed-more (areaAfter (needsLayout records ages 0 [] needs) before (coreIn after devices)) after a l r h
+    (f ∙ ap (λ y. closedArea records ages a (getD before a freshArea) y x) (c .2 a (omega arith)) ∙ close-turn records ages needs before after devices a x e) c
+
+-- all are closed
+pub closed-all : (p : Layout) (before after : List Area) (c : Core) (a : ℕ) (l : List Area) → a ≡ 8 → ClosedTo (areaAfter p before c) after a l → l ≡ areasAfter p before c
+unfolding areasAfter
+closed-all p before after c a l e h = table-whole 8 (areaAfter p before c) freshArea l (h .0) (λ k m. h .1 k (omega (arith, e)))

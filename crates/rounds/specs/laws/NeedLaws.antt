@@ -7,7 +7,7 @@ use native.Mathlib.Omega.{arith}
 use lib.ListN.{length, getD}
 use Rattle.arith.specs.Cases.{by-bool}
 use Rattle.arith.specs.Parts.{upd-case}
-use Rattle.arith.specs.Tables.{table-at, table-same, table-whole}
+use Rattle.arith.specs.Tables.{table, table-at, table-same, table-whole}
 use Rattle.machine.specs.laws.Dues.{Due}
 use Rattle.machine.specs.Sound.{jobIn, deviceIn, coreIn}
 use Rattle.memory.specs.declared.DeviceAnswer.{DeviceAnswer}
@@ -29,8 +29,12 @@ use Rattle.state.specs.declared.DeviceState.the-variants.{Free, Runs, LockedFor
 use Rattle.state.specs.declared.Suspended.{Suspended}
 use Rattle.state.specs.declared.Suspended.the-variants as Kept
 use Rattle.state.specs.declared.Waits.{Waits}
-use Rattle.rounds.specs.Close.{closed, waitsIn, areasAfter, devicesAfter, lentTo, halvesOf}
-use Rattle.rounds.specs.laws.Picks.{needsOf, needsLayout}
+use Rattle.turns.specs.Close.{closed, waitsIn, areasAfter, devicesAfter, lentTo, halvesOf}
+use Rattle.turns.specs.laws.Picks.{needsLayout}
+
+-- the devices of the due segments
+unfoldable pub needsOf : List Segment → List ℕ
+needsOf dues = table 8 (λ a. getD dues a noSegment .device) 0 8
 
 -- the list has, for each pending job, the device that it needs
 abbrev pub Needed : Plan → List ℕ → Core → Type 0

@@ -29,12 +29,12 @@ use Rattle.state.specs.declared.DeviceState.the-variants.{Free, Runs, LockedFor
 use Rattle.state.specs.declared.Suspended.{Suspended}
 use Rattle.state.specs.declared.Suspended.the-variants as Kept
 use Rattle.rounds.specs.laws.AnswerLaws.{core-set, device-changed, core-kept}
-use Rattle.rounds.specs.laws.Picks.{needsLayout, betterOf, bestTo, readyIn, slotOf, isTaken, chosenIn, startOf, startWith}
-use Rattle.rounds.specs.declared.picks.Best.{Best}
-use Rattle.rounds.specs.declared.picks.Best.the-variants as Bests
-use Rattle.rounds.specs.declared.picks.Slot.{Slot}
-use Rattle.rounds.specs.declared.picks.Slot.the-variants as Slots
-use Rattle.rounds.specs.declared.picks.Start.{Start}
+use Rattle.turns.specs.laws.Picks.{needsLayout, betterOf, bestTo, readyIn, slotOf, isTaken, chosenIn, startOf, startWith}
+use Rattle.turns.specs.declared.picks.Best.{Best}
+use Rattle.turns.specs.declared.picks.Best.the-variants as Bests
+use Rattle.turns.specs.declared.picks.Slot.{Slot}
+use Rattle.turns.specs.declared.picks.Slot.the-variants as Slots
+use Rattle.turns.specs.declared.picks.Start.{Start}
 
 -- a choice with the area's priority and age beside it
 abbrev withRank : List AreaRecord → List ℕ → Choice → Best
@@ -189,12 +189,12 @@ module _ (d : ℕ) (areas : List Area) (devices : List Device) (areas-are : leng
     known-best (Bests.Area a q x) e = let l = best-below records ages (readyIn needs areas d) count (Bests.Area a q x) e a q x refl in omega arith
 
     -- a turn of the loop over the devices
-    pub start-turn : (s : Slot) →
-        s ≡ slotOf (deviceOf holders d .suspends) (jobIn areas (runnerOf (stateIn devices d)) .task .kind) (stateIn devices d) (deviceIn devices d .suspended) →
+    pub start-turn : (r : ℕ) → r ≡ runnerOf (stateIn devices d) → (s : Slot) →
+        s ≡ slotOf (deviceOf holders d .suspends) (jobIn areas r .task .kind) (stateIn devices d) (deviceIn devices d .suspended) →
         (b : Best) → b ≡ pick (isTaken s) Bests.Nobody choices → (k : ℕ) → k ≡ chosenIn b → (t : Start) →
         t ≡ startWith s b (getD areas k freshArea) (getD devices d freeDevice) →
         coreIn (set areas k (t .area)) (set devices d (t .device)) ≡ startDevice (needsLayout records ages count holders needs) d (coreIn areas devices)
-    start-turn s e b f k g t h =
+    start-turn r runs s e b f k g t h =
         by-bool (isTaken s)
         (λ taken.
         let none : b ≡ Bests.Nobody = f ∙ rw taken in
@@ -206,8 +206,11 @@ module _ (d : ℕ) (areas : List Area) (devices : List Device) (areas-are : leng
         choice : Choice
         choice = best (needsLayout records ages count holders needs) (coreIn areas devices) d count
 
+        slot : ℕ → Slot
+        slot n = slotOf (deviceOf holders d .suspends) (jobIn areas n .task .kind) (stateIn devices d) (deviceIn devices d .suspended)
+
         by-slot : startAt d s choice (coreIn areas devices) ≡ startDevice (needsLayout records ages count holders needs) d (coreIn areas devices)
-        by-slot = ap (λ x. startAt d x choice (coreIn areas devices)) e ∙ slot-start records ages count holders needs d areas devices areas-are
+        by-slot = ap (λ x. startAt d x choice (coreIn areas devices)) (e ∙ ap slot runs) ∙ slot-start records ages count holders needs d areas devices areas-are
 
 -- the choices of the first n devices, and one more
 pub second-turn : (p : Layout) (n : ℕ) (c e next : Core) → e ≡ secondHalf p n c → next ≡ startDevice p n e → next ≡ secondHalf p (n + 1) c

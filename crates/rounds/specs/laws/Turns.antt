@@ -1,11 +1,10 @@
 -- The first half of a round, as the code goes: a device at a time, with the due segments that were found before it.
-use Prim.Native.Nat.{ℕ, _+_, _≤_, _<_}
+use Prim.Native.Nat.{ℕ, _≤_, _<_}
 use mathlib.Core.Bool.{true}
 use mathlib.Core.List.{List}
 use mathlib.Core.Path.{_≡_, refl, sym, ap, subst, _∙_}
 use native.Mathlib.Omega.{arith}
 use borrow.Author.Tests.{lt-ltb}
-use lib.Dec.{leb}
 use lib.ListN.{length, getD, set}
 use Rattle.arith.specs.Parts.{upd, upd-case}
 use Rattle.machine.specs.laws.Arrays.{view-set, job-set}
@@ -18,8 +17,8 @@ use Rattle.plan.specs.declared.records.DeviceRecord.{DeviceRecord}
 use Rattle.plan.specs.declared.records.Plan.{Plan}
 use Rattle.plan.specs.declared.records.SubAreaRecord.{SubAreaRecord}
 use Rattle.rules.specs.Admission.{imageFits, storeReaches}
-use Rattle.rules.specs.Machine.{Verdict, isPending, doing}
-use Rattle.rules.specs.Memory.{Memory, verdictOf, answeredMemory}
+use Rattle.rules.specs.Machine.{isPending, doing}
+use Rattle.rules.specs.Memory.{Memory}
 use Rattle.rules.specs.Round.{takeIn}
 use Rattle.segment.specs.Segments.{noSegment, segmentAt}
 use Rattle.segment.specs.declared.Segment.{Segment}
@@ -29,49 +28,11 @@ use Rattle.state.specs.declared.Device.{Device}
 use Rattle.state.specs.declared.DeviceState.{DeviceState}
 use Rattle.state.specs.declared.DeviceState.the-variants.{Free, Runs, LockedFor}
 use Rattle.state.specs.declared.Job.{Job}
-use Rattle.requests.specs.Effects.{lentEnd}
-use Rattle.requests.specs.Requests.{takenState, takenWith, dueWith, nextOf, Fits, request-fits, job-taken, due-taken, state-taken, memory-taken, found-fits}
+use Rattle.requests.specs.Requests.{Fits, request-fits, job-taken, due-taken, state-taken, memory-taken, found-fits}
+use Rattle.turns.specs.laws.Answers.{Lent, turnArea, turnState, turnDue, turnMemory}
 use Rattle.rounds.specs.laws.AnswerLaws.{core-kept, free-core, free-memory, locked-core, locked-memory, runs-core, runs-memory}
-use Rattle.rounds.specs.Close.{lentTo}
-
--- image and store hold what a running request needs of them
-abbrev pub Lent : AreaRecord → Area → Segment → List ℕ → List ℕ → DeviceState → Type 0
-Lent place x s image store Free = Unit
-Lent place x s image store (LockedFor a) = Unit
-Lent place x s image store (Runs a polls) =
-    (s .start .0 + s .length ≤ length image)
-    × (lentEnd (x .job .task .kind) (place .window .start + x .job .processed) (s .length) ≤ length store)
-    × (x .job .processed + s .length ≤ x .job .task .length)
-
--- what answer y comes to
-abbrev turnVerdict : AreaRecord → Area → Segment → DeviceAnswer → Memory → Verdict
-turnVerdict place x s y m = verdictOf y (x .job .task .kind) (s .start .0) (place .window .start + x .job .processed) (s .length) m
-
--- area, due segment, device and memory after the answer
-abbrev pub turnArea : List SubAreaRecord → ℕ → AreaRecord → DeviceRecord → Area → Segment → DeviceAnswer → Memory → DeviceState → Area
-turnArea l n place holder x s y m Free = x
-turnArea l n place holder x s y m (LockedFor a) = x
-turnArea l n place holder x s y m (Runs a polls) =
-    record {
-      job = takenWith (s .length) (nextOf y l n (place .start .0) a (x .job) s .retries) (turnVerdict place x s y m) (leb (holder .«poll_limit») (polls + 1)) (x .job);
-      waits = x .waits;
-    }
-
-abbrev pub turnDue : List SubAreaRecord → ℕ → AreaRecord → Area → Segment → DeviceAnswer → Memory → DeviceState → Segment
-turnDue l n place x s y m Free = s
-turnDue l n place x s y m (LockedFor a) = s
-turnDue l n place x s y m (Runs a polls) = dueWith s (nextOf y l n (place .start .0) a (x .job) s) (turnVerdict place x s y m)
-
-abbrev pub turnState : AreaRecord → DeviceRecord → Area → Segment → DeviceAnswer → Memory → DeviceState → DeviceState
-turnState place holder x s y m Free = Free
-turnState place holder x s y m (LockedFor a) = LockedFor a
-turnState place holder x s y m (Runs a polls) = takenState a polls (turnVerdict place x s y m) (leb (holder .«poll_limit») (polls + 1))
-
-abbrev pub turnMemory : AreaRecord → DeviceRecord → Area → Segment → DeviceAnswer → Memory → DeviceState → Memory
-turnMemory place holder x s y m Free = m
-turnMemory place holder x s y m (LockedFor a) = m
-turnMemory place holder x s y m (Runs a polls) =
-    answeredMemory (holder .clears) y (x .job .task .kind) (s .start .0) (place .window .start + x .job .processed) (s .length) m
+use Rattle.rounds.specs.laws.Halves.{both}
+use Rattle.turns.specs.Close.{lentTo}
 
 -- one due segment more
 due-set : (p : Plan) (dues : List Segment) (jobs : ℕ → Job) (k : ℕ) (e : Segment) (j : Job) → k < length dues → Due p dues jobs →
@@ -171,16 +132,19 @@ module _ (p : Plan) (few : p .«area_count» ≤ 8) (d : ℕ) (y : DeviceAnswer)
     pub lent-turn : Lent (areaOf records k) (entry k) (due k) image store (stateIn devices d)
     lent-turn = rw records-are (turn-lent (stateIn devices d) refl k k-is)
 
-    pub memory-turn : (i t : List ℕ) → i ≡ turnMemory (areaOf records k) (deviceOf holders d) (entry k) (due k) y m (stateIn devices d) .image →
-        t ≡ turnMemory (areaOf records k) (deviceOf holders d) (entry k) (due k) y m (stateIn devices d) .store →
-        record { image = i; store = t } ≡ takeIn p d y (lentTo areas devices m) .memory
-    memory-turn i t =
-        rw (records-are, holders-are) (λ e f. (λ h. record { image = e h; store = f h }) ∙ turn-memory (stateIn devices d) refl k k-is)
-
-    pub core-turn : length areas ≡ 8 → length devices ≡ 4 → length dues ≡ 8 → d < 4 → (r : Area) (s : Segment) (z : Device) →
+    -- what the turn leaves: arrays and memory are those of the rules, and the due segments go along
+    pub whole-turn : length areas ≡ 8 → length devices ≡ 4 → length dues ≡ 8 → d < 4 → (r : Area) (s : Segment) (z : Device) (i t : List ℕ) →
         r ≡ turnArea l (p .«sub_area_count») (areaOf records k) (deviceOf holders d) (entry k) (due k) y m (stateIn devices d) →
         s ≡ turnDue l (p .«sub_area_count») (areaOf records k) (entry k) (due k) y m (stateIn devices d) →
         z ≡ doing (turnState (areaOf records k) (deviceOf holders d) (entry k) (due k) y m (stateIn devices d)) (deviceIn devices d) →
-        (coreIn (set areas k r) (set devices d z) ≡ takeIn p d y (lentTo areas devices m) .core) × Due p (set dues k s) (jobIn (set areas k r))
-    core-turn areas-are devices-are dues-are there r s z =
-        rw (l-is, records-are, holders-are) (turn-core areas-are devices-are dues-are there (stateIn devices d) refl k k-is r s z)
+        i ≡ turnMemory (areaOf records k) (deviceOf holders d) (entry k) (due k) y m (stateIn devices d) .image →
+        t ≡ turnMemory (areaOf records k) (deviceOf holders d) (entry k) (due k) y m (stateIn devices d) .store →
+        ((coreIn (set areas k r) (set devices d z), record { image = i; store = t }) ≡ both (takeIn p d y (lentTo areas devices m)))
+        × Due p (set dues k s) (jobIn (set areas k r))
+    whole-turn areas-are devices-are dues-are there r s z i t =
+        rw (l-is, records-are, holders-are)
+        (λ g h j e f.
+        let turn = turn-core areas-are devices-are dues-are there (stateIn devices d) refl k k-is r s z g h j in
+        let memory : record { image = i; store = t } ≡ takeIn p d y (lentTo areas devices m) .memory =
+        (λ n. record { image = e n; store = f n }) ∙ turn-memory (stateIn devices d) refl k k-is in
+        ((λ n. (turn .0 n, memory n)), turn .1))
