@@ -8,6 +8,10 @@ ghost use Rattle.timing.specs.Repeated.{taskOf, cancelTotal, jobTotal, p
 ghost use Rattle.memory.specs.Numbers.{admissionNumber};
 ghost use Rattle.requests.specs.Effects.{memoryOf};
 ghost use Rattle.timing.specs.Rounds.{answerNumbered, answersOf, processedTotal, roundsTotal, benchAfter};
+
+pub mod grown;
+pub mod in_place;
+
 use manager::Answered;
 use manager::Manager;
 use memory::DeviceAnswer;
@@ -38,7 +42,7 @@ fn submit(manager: Manager, kind: u8, area: usize, length: u32) -> Answered
 }
 
 // A job asked of each area.
-fn busy(plan: &[u8], kind: u8, length: u32) -> Manager
+pub(crate) fn busy(plan: &[u8], kind: u8, length: u32) -> Manager
     ensures { λ r. ⌜ r ≡ busyManager kind length (now (plan .entry)) ⌝ }
 {
     let loaded = Manager::load(plan);
@@ -136,7 +140,7 @@ pub extern "C" fn luvdrog_time_infos(plan: &[u8], kind: u8, length: u32, times: 
 }
 
 // What every device answers.
-fn answer_of(number: u32) -> DeviceAnswer
+pub(crate) fn answer_of(number: u32) -> DeviceAnswer
     ensures { λ r. ⌜ r ≡ answerNumbered number ⌝ }
 {
     if number == 0 {
@@ -149,7 +153,7 @@ fn answer_of(number: u32) -> DeviceAnswer
 }
 
 // What the jobs of the eight areas have processed.
-fn processed_sum(manager: Manager) -> u64
+pub(crate) fn processed_sum(manager: Manager) -> u64
     ensures { λ r. ⌜ r ≡ processedTotal manager 8 ⌝ }
     ensures { λ r. ⌜ r ≤ 34359738360 ⌝ }
 {
