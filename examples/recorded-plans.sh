@@ -1,5 +1,5 @@
 #!/bin/sh
-# The plans that the recorded runs under crates/ are made on. With "--check" it compares them with the files instead.
+# The plans that the recorded runs are made on (runs/, and crates/bench). With "--check" it compares them with the files instead.
 set -eu
 cd "$(dirname "$0")"
 . ./plan.sh
@@ -87,13 +87,13 @@ keep() {
 mode=${1:-write}
 plan_t 64 2 1 5 | keep plan-t/plan.bin
 plan_t 64 2 1 5 | keep ../crates/bench/data/plan.bin
-plan_t 64 2 1 5 | keep ../crates/bench_lines/data/plan.bin
-plan_t 64 2 1 5 | keep ../crates/bench_line_length/data/plan.bin
-plan_t 64 2 3 3 | keep ../crates/bench_equals/data/plan.bin
-plan_four | keep ../crates/bench_devices/data/plan.bin
-plan_both | keep ../crates/bench_suspends/data/plan.bin
-plan_marks | keep ../crates/bench_clears/data/plan.bin
-plan_store | keep ../crates/bench_store/data/plan.bin
-plan_t 64 0 1 5 | keep ../crates/bench_refused/data/plan.bin
-plan_t 65537 2 1 5 | keep ../crates/bench_sum/data/plan.bin
-head -c 4097 /dev/zero | keep ../crates/bench_long/data/plan.bin
+plan_t 64 2 1 5 | keep runs/lines/plan.bin
+plan_t 64 2 1 5 | keep runs/line-length/plan.bin
+plan_t 64 2 3 3 | keep runs/equals/plan.bin
+plan_four | keep runs/devices/plan.bin
+plan_both | keep runs/suspends/plan.bin
+plan_marks | keep runs/clears/plan.bin
+plan_store | keep runs/store/plan.bin
+plan_t 64 0 1 5 | keep runs/refused/plan.bin
+plan_t 65537 2 1 5 | keep runs/sum/plan.bin
+head -c 4097 /dev/zero | keep runs/long/plan.bin

@@ -49,7 +49,8 @@ comparisons() {
 }
 
 part "layout and recorded plans" layout
-part "proofs, edits and recorded runs" proofs
+part "proofs and edits" proofs
+part "recorded runs" sh tools/recorded-runs.sh
 part "libraries, and the model's own tests beside" libraries
 part "the model compared with the libraries" comparisons
 cat "$room/verdict"
