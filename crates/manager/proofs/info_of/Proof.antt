@@ -42,8 +42,8 @@ returns c =
     let answer = c .before .before .before .info-admission .ensures in (
       λ ages. info-number (managerOf (a .plan) (a .areas) (a .devices) ages) (a .area) _ sound _ answer,
       λ ages.
-      let m = managerOf (a .plan) (a .areas) (a .devices) ages in
-      c .no-job-info .ensures ∙ info-refused m (a .area) (refused-some _ _ (c .before .enum-told .given .1) _ (info-number m (a .area) _ sound _ answer)),
+          let m = managerOf (a .plan) (a .areas) (a .devices) ages in
+          c .no-job-info .ensures ∙ info-refused m (a .area) (refused-some _ _ (c .before .enum-told .given .1) _ (info-number m (a .area) _ sound _ answer)),
     )
 
 returns-2 : tie.Need-returns-2
@@ -53,8 +53,8 @@ returns-2 c =
     let answer = c .before .before .before .info-admission .ensures in (
       λ ages. info-number (managerOf (a .plan) (a .areas) (a .devices) ages) (a .area) _ sound _ answer,
       λ ages.
-      let m = managerOf (a .plan) (a .areas) (a .devices) ages in
-      c .job-info .ensures ∙ info-accepted m (a .area) (sym (info-number m (a .area) _ sound _ answer) ∙ ap admissionNumber (c .before .enum-told2 .given .1)),
+          let m = managerOf (a .plan) (a .areas) (a .devices) ages in
+          c .job-info .ensures ∙ info-accepted m (a .area) (sym (info-number m (a .area) _ sound _ answer) ∙ ap admissionNumber (c .before .enum-told2 .given .1)),
     )
 
 pub info-of-spec : {M : Type 1} → statement M
