@@ -2,9 +2,10 @@
 ghost use mathlib.Core.Path.{_≡_};
 ghost use Rattle.memory.specs.Numbers.{jobTypeNumber, admissionNumber};
 ghost use Rattle.plan.specs.Questions.{loadNumber};
-ghost use Prim.Native.Nat.{_<_};
+ghost use Prim.Native.Nat.{ℕ, _<_};
+ghost use mathlib.Core.List.{List};
 ghost use Rattle.memory.specs.declared.JobType.the-variants.{Write, Read, Compare, Erase, BlankCheck, Lock};
-ghost use Rattle.manager.specs.Calls.{changed, jobNumberOf, afterJob, releaseNumberOf, afterRelease, cancelNumberOf, afterCancel, infoNumberOf, statusOf, resultOf, processedOf, noJobInfo, infoOf, jobTypeOf, memoryInfoNumberOf, memoryOfArea, roundNumberOf, afterRound, memoryAfterRound};
+ghost use Rattle.manager.specs.Calls.{managerOf, changed, jobNumberOf, afterJob, releaseNumberOf, afterRelease, cancelNumberOf, afterCancel, infoNumberOf, statusOf, resultOf, processedOf, noJobInfo, infoOf, jobTypeOf, memoryInfoNumberOf, memoryOfArea, roundNumberOf, afterRound, memoryAfterRound};
 ghost use Rattle.machine.specs.Sound.{jobIn};
 ghost use Rattle.requests.specs.Effects.{memoryOf};
 ghost use Rattle.manager.specs.Load.{freshManager, loadedManager};
@@ -102,6 +103,25 @@ fn no_job_info() -> JobInfo
         processed: 0,
         waits,
         request,
+    }
+}
+
+// A job's info for an owner who keeps the manager in one place: the ages have no part in it.
+pub fn info_of(plan: Plan, areas: [Area; 8], devices: [Device; 4], area: usize) -> JobInfoAnswer
+    ensures { λ r. ⌜ ((ages : List ℕ) → admissionNumber (r .answer) ≡ infoNumberOf (managerOf plan areas devices ages) area) ⌝ }
+    ensures { λ r. ⌜ ((ages : List ℕ) → r .info ≡ infoOf (managerOf plan areas devices ages) area) ⌝ }
+{
+    let sound = is_sound(plan, areas, devices);
+    let answer = info_admission(sound, plan, area);
+    match answer {
+        Admission::Refused(_) => {
+            let info = no_job_info();
+            JobInfoAnswer { answer, info }
+        }
+        Admission::Accepted => {
+            let info = job_info(plan, areas, devices, area);
+            JobInfoAnswer { answer, info }
+        }
     }
 }
 
@@ -367,20 +387,9 @@ impl Manager {
         ensures { λ r. ⌜ r .info ≡ infoOf self area ⌝ }
         ensures { λ r. ⌜ jobTypeNumber (r .info .task .kind) ≡ jobTypeOf self area ⌝ }
     {
-        let answer = self.query_admission(area);
-        match answer {
-            Admission::Refused(_) => {
-                let info = no_job_info();
-                JobInfoAnswer { answer, info }
-            }
-            Admission::Accepted => {
-                let plan = self.plan;
-                let areas = self.areas;
-                let devices = self.devices;
-                let info = job_info(plan, areas, devices, area);
-                JobInfoAnswer { answer, info }
-            }
-        }
+        let areas = self.areas;
+        let devices = self.devices;
+        info_of(self.plan, areas, devices, area)
     }
 
     pub fn memory_info(self, area: usize, address: LogicalAddress) -> MemoryInfoAnswer

@@ -1,12 +1,20 @@
-// The lines of an input, played one after the other.
+// The lines of an input, played one after the other on a manager that stays in one place: what a line changes is written back.
 ghost use mathlib.Core.Path.{_≡_};
-ghost use Prim.Native.Nat.{_+_, _≤_};
+ghost use Prim.Native.Nat.{_≤_};
 ghost use lib.ListN.{length};
-ghost use Rattle.session.specs.Fold.{playedLast, playedInput};
-ghost use Rattle.session.specs.laws.FoldLaws.{sessionOf};
-use crate::play::play;
+ghost use Rattle.session.specs.Fold.{playedInput};
+ghost use Rattle.session.specs.laws.FoldLaws.{sessionOf, isLine};
+use crate::play::make;
+use crate::play::print_answer;
+use crate::play::print_info;
+use crate::play::print_round;
+use lines::Line;
+use lines::line_of;
 use lines::part_end;
 use manager::Manager;
+use manager::changes::round_change;
+use manager::info_of;
+use texts::question_line;
 
 // The next manager, how much of the input was used, and how many bytes were written.
 pub struct Progress {
@@ -15,55 +23,22 @@ pub struct Progress {
     pub written: usize,
 }
 
-// What stands behind the last line end: `used` bytes of input lie before it, and `end` bytes were written. Left open are the bytes of `out` behind those written.
-fn play_last(
-    manager: Manager,
-    rest: &[u8],
-    ends: bool,
-    image: &mut [u8],
-    store: &mut [u8],
-    out: &mut [u8],
-    end: usize,
-    used: usize,
-) -> Progress
-    requires { ⌜ (end + 338 ≤ length (now out)) × (used + length (now rest) ≤ 9223372036854775807) ⌝ }
-    ensures { λ r. ⌜ sessionOf (r .manager) (now (image .exit)) (now (store .exit)) (now (out .exit)) (r .written) (r .used) ≡ playedLast ends (now (rest .entry)) (sessionOf manager (now (image .entry)) (now (store .entry)) (now (out .entry)) end used) ⌝ }
-    ensures { λ r. ⌜ (r .written ≤ length (now (out .exit))) × (r .used ≤ used + length (now (rest .entry))) ⌝ }
+// What stands from `at` to `to` is a line where a line end follows; behind the last line end only where the input ends there, and if it has a byte.
+fn is_line(at: usize, to: usize, length: usize, ends: bool) -> bool
+    ensures { λ r. ⌜ r ≡ isLine ends at to length ⌝ }
 {
+    if to < length {
+        return true;
+    }
     if !ends {
-        return Progress {
-            manager,
-            used,
-            written: end,
-        };
+        return false;
     }
-    if rest.len() < 1 {
-        return Progress {
-            manager,
-            used,
-            written: end,
-        };
-    }
-    let played = play(manager, rest, image, store, out, end);
-    let plan = manager.plan;
-    let areas = played.areas;
-    let devices = played.devices;
-    let ages = played.ages;
-    let next = Manager {
-        plan,
-        areas,
-        devices,
-        ages,
-    };
-    Progress {
-        manager: next,
-        used: used + rest.len(),
-        written: played.end,
-    }
+    at < to
 }
 
 // The lines of the input, as long as the longest answer has room; what stands behind the last line end is a line only
 // where the input ends there. Left open are the bytes of `out` behind those written.
+// Each line ends its turn by itself, so each leaves its own next turn to prove.
 pub fn play_lines(
     manager: Manager,
     input: &[u8],
@@ -87,18 +62,64 @@ pub fn play_lines(
             };
         }
         let to = part_end(input, b'\n', at);
-        if to == input.len() {
-            return play_last(next, &input[at..to], ends, image, store, out, end, at);
+        if !is_line(at, to, input.len(), ends) {
+            return Progress {
+                manager: next,
+                used: at,
+                written: end,
+            };
         }
-        let played = play(next, &input[at..to], image, store, out, end);
-        let areas = played.areas;
-        let devices = played.devices;
-        let ages = played.ages;
-        next.areas = areas;
-        next.devices = devices;
-        next.ages = ages;
-        end = played.end;
+        let line = line_of(&input[at..to], next.plan.device_count);
         at = to + 1;
+        match line {
+            Line::Unreadable => {
+                end = question_line(out, end);
+                continue;
+            }
+            Line::Call(call) => {
+                let areas = next.areas;
+                let devices = next.devices;
+                let ages = next.ages;
+                let change = make(next.plan, areas, devices, ages, call);
+                let area_number = change.area_number;
+                let area = change.area;
+                let device_number = change.device_number;
+                let device = change.device;
+                let ages = change.ages;
+                let answer = change.answer;
+                next.areas[area_number] = area;
+                next.devices[device_number] = device;
+                next.ages = ages;
+                end = print_answer(out, end, answer);
+                continue;
+            }
+            Line::Info(area) => {
+                let areas = next.areas;
+                let devices = next.devices;
+                let asked = info_of(next.plan, areas, devices, area as usize);
+                end = print_info(out, end, asked);
+                continue;
+            }
+            Line::Round {
+                first,
+                second,
+                third,
+                fourth,
+            } => {
+                let answers = [first, second, third, fourth];
+                let areas = next.areas;
+                let devices = next.devices;
+                let ages = next.ages;
+                let change = round_change(next.plan, areas, devices, ages, answers, image, store);
+                let areas = change.areas;
+                let devices = change.devices;
+                let answer = change.answer;
+                next.areas = areas;
+                next.devices = devices;
+                end = print_round(out, end, answer, next.plan, areas, devices);
+                continue;
+            }
+        }
     }
     Progress {
         manager: next,

@@ -1,92 +1,114 @@
-// A line of the session: read, carried out on the manager, and its answer printed into a lent buffer, of which the bytes behind the answer are left open.
+// What a line's call changes of the manager, and its answer printed into a lent buffer, of which the bytes behind the answer are left open.
 ghost use mathlib.Core.Path.{_≡_};
-ghost use Prim.Native.Nat.{_+_, _≤_};
+ghost use Prim.Native.Nat.{_+_, _≤_, _<_};
 ghost use lib.ListN.{length};
-ghost use Rattle.manager.specs.Calls.{infoNumberOf, infoOf, roundNumberOf, afterRound, memoryAfterRound};
+ghost use Rattle.machine.specs.Sound.{coreIn};
+ghost use Rattle.manager.specs.Calls.{ifAccepted, managerOf, changed};
 ghost use Rattle.memory.specs.Numbers.{admissionNumber};
-ghost use Rattle.requests.specs.Effects.{memoryOf};
+ghost use Rattle.shown.specs.Shown.{devicesLine};
 ghost use Rattle.texts.specs.Appended.{Appended};
 ghost use Rattle.texts.specs.Texts.{numberLine};
-ghost use Rattle.session.specs.Play.{numberOfCall, afterCall, infoText, roundText, playedText, playedManager, playedMemory};
-ghost use Rattle.session.specs.laws.PlayLaws.{playedOf, leftBy};
-use lines::Line;
+ghost use Rattle.session.specs.Play.{taskIn, numberOfCall, afterCall, infoText};
+ghost use Rattle.session.specs.laws.PlayLaws.{jobOf, plainOf};
 use lines::LineCall;
-use lines::line_of;
-use manager::Answered;
-use manager::Manager;
-use memory::DeviceAnswer;
+use lines::Target;
+use manager::JobInfoAnswer;
+use manager::changes::Change;
+use manager::changes::cancel_change;
+use manager::changes::job_change;
+use manager::changes::release_change;
+use memory::Admission;
+use memory::JobType;
 use memory::LogicalAddress;
+use memory::Task;
+use plan::records::Plan;
 use shown::devices_line;
 use state::Area;
 use state::Device;
 use texts::info_line;
 use texts::number_line;
-use texts::question_line;
 
-// What a line leaves of all that moves in the manager (the plan never changes, and is long to hand on), and where the
-// answer ends in the buffer.
-pub struct Played {
-    pub areas: [Area; 8],
-    pub devices: [Device; 4],
-    pub ages: [u8; 8],
-    pub end: usize,
+// A call by the function that carries it out: one for the five jobs and the lock request.
+pub enum PlainCall {
+    Job { area: u32, task: Task },
+    Release(Target),
+    Cancel(u32),
 }
 
-impl Played {
-    fn of(next: Manager, end: usize) -> Played
-        ensures { λ r. ⌜ r ≡ playedOf next end ⌝ }
-    {
-        let areas = next.areas;
-        let devices = next.devices;
-        let ages = next.ages;
-        Played {
-            areas,
-            devices,
-            ages,
-            end,
-        }
+fn job_of(kind: JobType, target: Target) -> PlainCall
+    ensures { λ r. ⌜ r ≡ jobOf kind target ⌝ }
+{
+    let address = LogicalAddress(target.address);
+    let task = Task {
+        kind,
+        address,
+        length: target.length,
+    };
+    PlainCall::Job {
+        area: target.area,
+        task,
     }
 }
 
-fn make(manager: Manager, call: LineCall) -> Answered
-    ensures { λ r. ⌜ admissionNumber (r .answer) ≡ numberOfCall call manager ⌝ }
-    ensures { λ r. ⌜ r .manager ≡ afterCall call manager ⌝ }
+fn plain_of(call: LineCall) -> PlainCall
+    ensures { λ r. ⌜ r ≡ plainOf call ⌝ }
 {
     match call {
-        LineCall::Write(t) => manager.write(t.area as usize, LogicalAddress(t.address), t.length),
-        LineCall::Read(t) => manager.read(t.area as usize, LogicalAddress(t.address), t.length),
-        LineCall::Compare(t) => {
-            manager.compare(t.area as usize, LogicalAddress(t.address), t.length)
-        }
-        LineCall::Erase(t) => manager.erase(t.area as usize, LogicalAddress(t.address), t.length),
-        LineCall::BlankCheck(t) => {
-            manager.blank_check(t.area as usize, LogicalAddress(t.address), t.length)
-        }
-        LineCall::Lock(t) => manager.lock(t.area as usize, LogicalAddress(t.address), t.length),
-        LineCall::Release(t) => {
-            manager.release(t.area as usize, LogicalAddress(t.address), t.length)
-        }
-        LineCall::Cancel(area) => manager.cancel(area as usize),
+        LineCall::Write(target) => job_of(JobType::Write, target),
+        LineCall::Read(target) => job_of(JobType::Read, target),
+        LineCall::Compare(target) => job_of(JobType::Compare, target),
+        LineCall::Erase(target) => job_of(JobType::Erase, target),
+        LineCall::BlankCheck(target) => job_of(JobType::BlankCheck, target),
+        LineCall::Lock(target) => job_of(JobType::Lock, target),
+        LineCall::Release(target) => PlainCall::Release(target),
+        LineCall::Cancel(area) => PlainCall::Cancel(area),
     }
 }
 
-fn play_call(manager: Manager, call: LineCall, out: &mut [u8], at: usize) -> Played
-    requires { ⌜ at + 338 ≤ length (now out) ⌝ }
-    ensures { λ r. ⌜ (leftBy manager r ≡ afterCall call manager) × (Appended (now (out .entry)) (now (out .exit)) at (r .end) (numberLine (numberOfCall call manager))) × (r .end ≤ at + 338) ⌝ }
+pub fn make(
+    plan: Plan,
+    areas: [Area; 8],
+    devices: [Device; 4],
+    ages: [u8; 8],
+    call: LineCall,
+) -> Change
+    ensures { λ r. ⌜ admissionNumber (r .answer) ≡ numberOfCall call (managerOf plan areas devices ages) ⌝ }
+    ensures { λ r. ⌜ changed (managerOf plan areas devices ages) r ≡ afterCall call (managerOf plan areas devices ages) ⌝ }
+    ensures { λ r. ⌜ (r .«area_number» < 8) × (r .«device_number» < 4) ⌝ }
 {
-    let answered = make(manager, call);
-    let answer = answered.answer;
-    let number = answer.number();
-    let next = answered.manager;
-    let end = number_line(out, at, number as u64);
-    Played::of(next, end)
+    let plain = plain_of(call);
+    match plain {
+        PlainCall::Job { area, task } => {
+            job_change(plan, areas, devices, ages, area as usize, task)
+        }
+        PlainCall::Release(target) => {
+            let address = LogicalAddress(target.address);
+            release_change(
+                plan,
+                areas,
+                devices,
+                ages,
+                target.area as usize,
+                address,
+                target.length,
+            )
+        }
+        PlainCall::Cancel(area) => cancel_change(plan, areas, devices, ages, area as usize),
+    }
 }
 
-fn play_info(manager: Manager, area: u32, out: &mut [u8], at: usize) -> usize
+pub fn print_answer(out: &mut [u8], at: usize, answer: Admission) -> usize
     requires { ⌜ at + 338 ≤ length (now out) ⌝ }
-    ensures { λ r. ⌜ (Appended (now (out .entry)) (now (out .exit)) at r (infoText (infoNumberOf manager area) (infoOf manager area))) × (r ≤ at + 338) ⌝ }
+    ensures { λ r. ⌜ (Appended (now (out .entry)) (now (out .exit)) at r (numberLine (admissionNumber answer))) × (r ≤ at + 338) ⌝ }
 {
-    let asked = manager.job_info(area as usize);
+    let number = answer.number();
+    number_line(out, at, number as u64)
+}
+
+pub fn print_info(out: &mut [u8], at: usize, asked: JobInfoAnswer) -> usize
+    requires { ⌜ at + 338 ≤ length (now out) ⌝ }
+    ensures { λ r. ⌜ (Appended (now (out .entry)) (now (out .exit)) at r (infoText (admissionNumber (asked .answer)) (asked .info))) × (r ≤ at + 338) ⌝ }
+{
     let answer = asked.answer;
     let number = answer.number();
     if 0 < number {
@@ -98,68 +120,21 @@ fn play_info(manager: Manager, area: u32, out: &mut [u8], at: usize) -> usize
     info_line(out, at, result, info.processed, waits)
 }
 
-fn play_round(
-    manager: Manager,
-    answers: [DeviceAnswer; 4],
-    image: &mut [u8],
-    store: &mut [u8],
+pub fn print_round(
     out: &mut [u8],
     at: usize,
-) -> Played
+    answer: Admission,
+    plan: Plan,
+    areas: [Area; 8],
+    devices: [Device; 4],
+) -> usize
     requires { ⌜ at + 338 ≤ length (now out) ⌝ }
-    ensures { λ r. ⌜ leftBy manager r ≡ afterRound manager answers (memoryOf (now (image .entry)) (now (store .entry))) ⌝ }
-    ensures { λ _. ⌜ now (image .exit) ≡ memoryAfterRound manager answers (memoryOf (now (image .entry)) (now (store .entry))) .image ⌝ }
-    ensures { λ _. ⌜ now (store .exit) ≡ memoryAfterRound manager answers (memoryOf (now (image .entry)) (now (store .entry))) .store ⌝ }
-    ensures { λ r. ⌜ (Appended (now (out .entry)) (now (out .exit)) at (r .end) (roundText (roundNumberOf manager (memoryOf (now (image .entry)) (now (store .entry)))) (afterRound manager answers (memoryOf (now (image .entry)) (now (store .entry)))))) × (r .end ≤ at + 338) ⌝ }
+    requires { ⌜ (admissionNumber answer ≡ 0 → (plan .«sub_area_count» ≤ 32) × (plan .«device_count» ≤ 4)) ⌝ }
+    ensures { λ r. ⌜ (Appended (now (out .entry)) (now (out .exit)) at r (ifAccepted (admissionNumber answer) (devicesLine plan (coreIn areas devices)) (numberLine (admissionNumber answer)))) × (r ≤ at + 338) ⌝ }
 {
-    let answered = manager.round(answers, image, store);
-    let answer = answered.answer;
-    let next = answered.manager;
     let number = answer.number();
     if 0 < number {
-        let end = number_line(out, at, number as u64);
-        return Played::of(next, end);
+        return number_line(out, at, number as u64);
     }
-    let areas = next.areas;
-    let devices = next.devices;
-    let end = devices_line(out, at, manager.plan, areas, devices);
-    Played::of(next, end)
-}
-
-// A line, its bytes without the line end. The answer is at most 338 bytes long.
-pub fn play(
-    manager: Manager,
-    line: &[u8],
-    image: &mut [u8],
-    store: &mut [u8],
-    out: &mut [u8],
-    at: usize,
-) -> Played
-    requires { ⌜ at + 338 ≤ length (now out) ⌝ }
-    ensures { λ r. ⌜ leftBy manager r ≡ playedManager manager (now (line .entry)) (memoryOf (now (image .entry)) (now (store .entry))) ⌝ }
-    ensures { λ _. ⌜ now (image .exit) ≡ playedMemory manager (now (line .entry)) (memoryOf (now (image .entry)) (now (store .entry))) .image ⌝ }
-    ensures { λ _. ⌜ now (store .exit) ≡ playedMemory manager (now (line .entry)) (memoryOf (now (image .entry)) (now (store .entry))) .store ⌝ }
-    ensures { λ r. ⌜ (Appended (now (out .entry)) (now (out .exit)) at (r .end) (playedText manager (now (line .entry)) (memoryOf (now (image .entry)) (now (store .entry))))) × (r .end ≤ at + 338) ⌝ }
-{
-    let asked = line_of(line, manager.plan.device_count);
-    match asked {
-        Line::Unreadable => {
-            let end = question_line(out, at);
-            Played::of(manager, end)
-        }
-        Line::Call(call) => play_call(manager, call, out, at),
-        Line::Info(area) => {
-            let end = play_info(manager, area, out, at);
-            Played::of(manager, end)
-        }
-        Line::Round {
-            first,
-            second,
-            third,
-            fourth,
-        } => {
-            let answers = [first, second, third, fourth];
-            play_round(manager, answers, image, store, out, at)
-        }
-    }
+    devices_line(out, at, plan, areas, devices)
 }

@@ -8,14 +8,12 @@ use borrow.Author.Tests.{eq-eqb, ne-eqb}
 use Rattle.arith.specs.Cases.{by-bool}
 use Rattle.machine.specs.Sound.{isSound}
 use Rattle.machine.specs.laws.SoundCases.{sound-counts}
-use Rattle.manager.specs.Calls.{coreOf, roundNumberOf, afterRound}
+use Rattle.manager.specs.Calls.{ifAccepted, roundNumberOf, afterRound}
 use Rattle.manager.specs.declared.Manager.{Manager}
 use Rattle.memory.specs.declared.DeviceAnswer.{DeviceAnswer}
 use Rattle.rules.specs.Memory.{Memory}
-use Rattle.shown.specs.Shown.{devicesLine}
 use Rattle.texts.specs.Appended.{Appended}
 use Rattle.texts.specs.Texts.{numberLine}
-use Rattle.session.specs.Play.{roundText}
 
 module _ (m : Manager) (answers : List DeviceAnswer) (lent : Memory) (e : roundNumberOf m lent ≡ 0) where
   -- an accepted round is of a sound state
@@ -31,9 +29,9 @@ module _ (m : Manager) (answers : List DeviceAnswer) (lent : Memory) (e : roundN
       let few = sound-counts (m .plan) (m .areas) (m .devices) round-sound in
       rw (f, eq-eqb (roundNumberOf m lent) 0 e) (few .2, few .0)
 
-module _ {a b : List ℕ} {i j : ℕ} (n k : ℕ) (e : k ≡ n) (x y : Manager) (f : x ≡ y) where
-  pub round-refused : 0 < k → Appended a b i j (numberLine k) → Appended a b i j (roundText n y)
+module _ {a b : List ℕ} {i j : ℕ} (n k : ℕ) (e : k ≡ n) (line : List ℕ) where
+  pub round-refused : 0 < k → Appended a b i j (numberLine k) → Appended a b i j (ifAccepted n line (numberLine n))
   round-refused h p = rw (ne-eqb n 0 (λ z. omega arith)) (rw e at p)
 
-  pub round-accepted : k ≤ 0 → Appended a b i j (devicesLine (x .plan) (coreOf x)) → Appended a b i j (roundText n y)
-  round-accepted h p = rw (eq-eqb n 0 (omega arith)) (rw f at p)
+  pub round-accepted : k ≤ 0 → Appended a b i j line → Appended a b i j (ifAccepted n line (numberLine n))
+  round-accepted h p = rw (eq-eqb n 0 (omega arith)) p

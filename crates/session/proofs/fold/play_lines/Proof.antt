@@ -1,29 +1,43 @@
 use Prim.Native.Nat.{_+_, _-_, _≤_}
+use mathlib.Core.Bool.{not}
 use mathlib.Core.Path.{_≡_, refl, sym, ap, _∙_}
 use lib.ListN.{length}
 use native.Mathlib.Omega.{arith}
+use borrow.Author.Tests.{not-true, not-false}
 use Rattle.lines.specs.Fields.{cutFrom}
-use Rattle.lines.specs.laws.FieldLaws.{word, fields-all, more-fields, no-fields}
+use Rattle.lines.specs.laws.FieldLaws.{fields-all, fields-past}
+use Rattle.requests.specs.Effects.{memoryOf}
 use Rattle.session.specs.Fold.{playedLines, playedInput}
-use Rattle.session.specs.laws.FoldLaws.{sessionOf, played-more, lines-full, lines-last, lines-more, word-length}
+use Rattle.session.specs.laws.FoldLaws.{sessionOf, usedTo, lines-full, lines-none, lines-turn}
+use Rattle.session.specs.laws.PlayLaws.{unreadable-done, call-done, info-done, round-done}
+use Rattle.session.specs.laws.RoundLaws.{round-shows}
 use borrow.Author.Needs.{needs}
 use Rattle.session.proofs.fold.play_lines.Statement.{statement}
 use Rattle.session.proofs.fold.play_lines.Tie as tie
 use Rattle.session.proofs.fold.play_lines.Reads as reads
 use Rattle.session.proofs.fold.play_lines.Lts as lts
+use Rattle.lines.proofs.line_of.Reads as line-of-reads
 use Rattle.lines.proofs.part_end.Reads as part-end-reads
-use Rattle.session.proofs.fold.play_last.Reads as play-last-reads
-use Rattle.session.proofs.play.play.Reads as play-reads
+use Rattle.manager.proofs.changes.round_change.Reads as round-change-reads
+use Rattle.manager.proofs.info_of.Reads as info-of-reads
+use Rattle.session.proofs.fold.is_line.Reads as is-line-reads
+use Rattle.session.proofs.play.make.Reads as make-reads
+use Rattle.session.proofs.play.print_answer.Reads as print-answer-reads
+use Rattle.session.proofs.play.print_info.Reads as print-info-reads
+use Rattle.session.proofs.play.print_round.Reads as print-round-reads
+use Rattle.texts.proofs.question_line.Reads as question-line-reads
 
 abbrev Inv-loop : tie.InvT-loop
-Inv-loop input ends image₀ store₀ out₀ next₀ at₀ end₀ image store out next at end = (at ≤ length input) × (end ≤ length out) × (length image ≡ length image₀) × (length store ≡ length store₀) × (length out ≡ length out₀) × (playedLines ends (length out₀) (cutFrom 10 input at) (sessionOf next image store out end at) ≡ playedInput ends (length out₀) input (sessionOf next₀ image₀ store₀ out₀ 0 0))
+Inv-loop input ends image₀ store₀ out₀ next₀ at₀ end₀ image store out next at end = (at ≤ length input + 1) × (end ≤ length out) × (length image ≡ length image₀) × (length store ≡ length store₀) × (length out ≡ length out₀) × (playedLines ends (length out₀) (cutFrom 10 input at) (sessionOf next image store out end (usedTo at input)) ≡ playedInput ends (length out₀) input (sessionOf next₀ image₀ store₀ out₀ 0 0))
 
 abbrev μ-loop : tie.MeasureT-loop
 μ-loop input ends image₀ store₀ out₀ next₀ at₀ end₀ image store out next at end = length input + 1 - at
 
 loop-holds : tie.Need-loop-holds Inv-loop μ-loop
-loop-holds c = let a = c .before .before .before .before .args in
-    (omega arith, omega arith, refl, refl, refl, ap (λ F. playedLines (a .ends) (length (a .out .now)) F (sessionOf (a .manager) (a .image .now) (a .store .now) (a .out .now) 0 0)) (fields-all 10 (a .input .now)))
+loop-holds c =
+    let a = c .before .before .before .before .args in
+    let zero : usedTo 0 (a .input .now) ≡ 0 = omega arith in
+    (omega arith, omega arith, refl, refl, refl, ap (λ u. playedLines (a .ends) (length (a .out .now)) (cutFrom 10 (a .input .now) 0) (sessionOf (a .manager) (a .image .now) (a .store .now) (a .out .now) 0 u)) zero ∙ ap (λ F. playedLines (a .ends) (length (a .out .now)) F (sessionOf (a .manager) (a .image .now) (a .store .now) (a .out .now) 0 0)) (fields-all 10 (a .input .now)))
 
 add-if1 : tie.Need-add-if1 Inv-loop μ-loop
 add-if1 c = search needs
@@ -38,24 +52,21 @@ same-length-3 : tie.Need-same-length-3 Inv-loop μ-loop
 same-length-3 c = search needs
 
 returns : tie.Need-returns Inv-loop μ-loop
-returns c = let l = c .before .before .loop in
+returns c =
+    let l = c .before .before .loop in
     let a = c .before .before .before .before .before .before .before .args in
-    (lines-full (a .ends) (length (a .out .now)) (l .next) (l .image) (l .store) (l .out) (l .end) (l .at) (omega arith) (omega arith) (cutFrom 10 (a .input .now) (l .at)) ∙ l .inv .5, (omega arith, omega arith))
+    let u : l .at ≡ usedTo (l .at) (a .input .now) = omega arith in (
+      ap (sessionOf (l .next) (l .image) (l .store) (l .out) (l .end)) u
+          ∙ lines-full (a .ends) (length (a .out .now)) (l .next) (l .image) (l .store) (l .out) (l .end) (usedTo (l .at) (a .input .now)) (omega arith) (omega arith) (cutFrom 10 (a .input .now) (l .at))
+          ∙ l .inv .5,
+      (omega arith, omega arith),
+    )
 
 part-end-requires : tie.Need-part-end-requires Inv-loop μ-loop
 part-end-requires c κs = search needs
 
-sub-play-last : tie.Need-sub-play-last Inv-loop μ-loop
-sub-play-last c = search needs
-
-part-play-last-start : tie.Need-part-play-last-start Inv-loop μ-loop
-part-play-last-start c = search needs
-
-part-play-last-end : tie.Need-part-play-last-end Inv-loop μ-loop
-part-play-last-end c = search needs
-
-play-last-requires : tie.Need-play-last-requires Inv-loop μ-loop
-play-last-requires c κs = search needs
+is-line-requires : tie.Need-is-line-requires Inv-loop μ-loop
+is-line-requires c κs = search needs
 
 same-length-4 : tie.Need-same-length-4 Inv-loop μ-loop
 same-length-4 c = search needs
@@ -67,56 +78,163 @@ same-length-6 : tie.Need-same-length-6 Inv-loop μ-loop
 same-length-6 c = search needs
 
 returns-2 : tie.Need-returns-2 Inv-loop μ-loop
-returns-2 c = let l = c .before .before .before .before .before .before .before .before .before .before .before .before .before .before .before .loop in
-    let a = c .before .before .before .before .before .before .before .before .before .before .before .before .before .before .before .before .before .before .before .before .args in
-    let e = c .before .before .before .before .before .before .before .before .before .before .before .before .part-end in
-    let p = c .before .before .before .before .before .before .play-last .ensures in (
-      p .0
-          ∙ lines-last (a .ends) (length (a .out .now)) (l .next) (l .image) (l .store) (l .out) (l .end) (l .at) (omega arith) (omega arith)
-          (cutFrom 10 (a .input .now) (l .at)) (cutFrom 10 (a .input .now) (e .result + 1)) (word (a .input .now) (l .at) (e .result)) (e .ensures .2)
-          (no-fields 10 (a .input .now) (e .result + 1) (omega arith))
+returns-2 c =
+    let l = c .before .before .before .before .before .loop in
+    let a = c .before .before .before .before .before .before .before .before .before .before .args in
+    let e = c .before .before .part-end in
+    let u : l .at ≡ usedTo (l .at) (a .input .now) = omega arith in
+    let no = sym (c .before .is-line .ensures) ∙ not-true _ (c .if2 .taken) in (
+      ap (sessionOf (l .next) (l .image) (l .store) (l .out) (l .end)) u
+          ∙ lines-none (a .ends) (length (a .out .now)) (l .next) (l .image) (l .store) (l .out) (l .end) (usedTo (l .at) (a .input .now)) (omega arith)
+          (omega arith) (a .input .now) (l .at) (e .result) (e .ensures .0) (e .ensures .1) (e .ensures .2) no
           ∙ l .inv .5,
-      (p .1 .0, omega (arith, p .1 .1, word-length (a .input .now) (l .at) (e .result) (omega arith) (omega arith))),
+      (omega arith, omega arith),
     )
 
-sub-play : tie.Need-sub-play Inv-loop μ-loop
-sub-play c = search needs
+sub-line-of : tie.Need-sub-line-of Inv-loop μ-loop
+sub-line-of c = search needs
 
-part-play-start : tie.Need-part-play-start Inv-loop μ-loop
-part-play-start c = search needs
+part-line-of-start : tie.Need-part-line-of-start Inv-loop μ-loop
+part-line-of-start c = search needs
 
-part-play-end : tie.Need-part-play-end Inv-loop μ-loop
-part-play-end c = search needs
+part-line-of-end : tie.Need-part-line-of-end Inv-loop μ-loop
+part-line-of-end c = search needs
 
-play-requires : tie.Need-play-requires Inv-loop μ-loop
-play-requires c κs = search needs
+line-of-requires : tie.Need-line-of-requires Inv-loop μ-loop
+line-of-requires c κs = search needs
 
 add-at : tie.Need-add-at Inv-loop μ-loop
-add-at c = omega (arith, c .before .before .before .before .before .before .before .before .before .before .before .before .before .before .before .part-end .ensures .1, c .before .before .before .before .before .before .before .before .before .before .before .before .before .before .before .before .before .before .before .before .before .before .before .good .1 .0)
+add-at c = search needs
+
+enum-told : tie.Need-enum-told Inv-loop μ-loop
+enum-told c = search needs
+
+question-line-requires : tie.Need-question-line-requires Inv-loop μ-loop
+question-line-requires c κs = omega (arith, c .before .before .before .before .before .before .before .before .if1 .left)
 
 loop-less : tie.Need-loop-less Inv-loop μ-loop
-loop-less c = search needs
+loop-less c = omega (arith, c .before .before .before .before .before .before .before .before .before .before .before .before .loop-test .taken, c .before .before .before .before .before .before .before .before .before .before .part-end .ensures .0)
 
 loop-again : tie.Need-loop-again Inv-loop μ-loop
-loop-again c = let l = c .before .before .before .before .before .before .before .before .before .before .before .before .before .before .before .before .before .before .loop in
+loop-again c =
+    let l = c .before .before .before .before .before .before .before .before .before .before .before .before .before .loop in
+    let a = c .before .before .before .before .before .before .before .before .before .before .before .before .before .before .before .before .before .before .args in
+    let e = c .before .before .before .before .before .before .before .before .before .before .part-end in
+    let more = c .before .before .before .before .before .before .before .before .before .before .before .before .loop-test .taken in
+    let room = c .before .before .before .before .before .before .before .before .before .before .before .if1 .left in
+    let u : usedTo (l .at) (a .input .now) ≡ l .at = omega (arith, more) in
+    let yes = sym (c .before .before .before .before .before .before .before .before .before .is-line .ensures) ∙ not-false _ (c .before .before .before .before .before .before .before .before .if2 .left) in
+    let p = c .before .before .question-line .ensures in
+    let d = unreadable-done _ (l .next) (memoryOf (l .image) (l .store)) (c .before .before .before .before .enum-told .given .1) (p .0) (omega arith) in
+    let t = lines-turn (a .ends) (length (a .out .now)) (l .next) (l .image) (l .store) (l .out) (l .end) (usedTo (l .at) (a .input .now)) (l .inv .1)
+    (omega (arith, room, l .inv .4)) (a .input .now) (l .at) (e .result) (e .ensures .0) (e .ensures .1) (e .ensures .2) yes u _ (l .next) (l .image) (l .store)
+    (c .before .before .before .before .before .before .line-of .ensures) d _ (l .inv .5) in
+    (omega (arith, e .ensures .1), omega (arith, t .0, t .1, room), l .inv .2, l .inv .3, t .1 ∙ l .inv .4, t .2)
+
+enum-known-line : tie.Need-enum-known-line Inv-loop μ-loop
+enum-known-line c = search needs
+
+make-requires : tie.Need-make-requires Inv-loop μ-loop
+make-requires c κs = search needs
+
+mul-area : tie.Need-mul-area Inv-loop μ-loop
+mul-area c = search needs
+
+element-set-from-area : tie.Need-element-set-from-area Inv-loop μ-loop
+element-set-from-area c = search needs
+
+mul-device : tie.Need-mul-device Inv-loop μ-loop
+mul-device c = search needs
+
+element-set-from-device : tie.Need-element-set-from-device Inv-loop μ-loop
+element-set-from-device c = search needs
+
+print-answer-requires : tie.Need-print-answer-requires Inv-loop μ-loop
+print-answer-requires c κs = omega (arith, c .before .before .before .before .before .before .before .before .before .before .before .before .before .before .before .before .before .if1 .left)
+
+loop-less-2 : tie.Need-loop-less-2 Inv-loop μ-loop
+loop-less-2 c = omega (arith, c .before .before .before .before .before .before .before .before .before .before .before .before .before .before .before .before .before .before .before .before .before .loop-test .taken, c .before .before .before .before .before .before .before .before .before .before .before .before .before .before .before .before .before .before .before .part-end .ensures .0)
+
+loop-again-2 : tie.Need-loop-again-2 Inv-loop μ-loop
+loop-again-2 c =
+    let l = c .before .before .before .before .before .before .before .before .before .before .before .before .before .before .before .before .before .before .before .before .before .before .loop in
+    let a = c .before .before .before .before .before .before .before .before .before .before .before .before .before .before .before .before .before .before .before .before .before .before .before .before .before .before .before .args in
+    let e = c .before .before .before .before .before .before .before .before .before .before .before .before .before .before .before .before .before .before .before .part-end in
+    let more = c .before .before .before .before .before .before .before .before .before .before .before .before .before .before .before .before .before .before .before .before .before .loop-test .taken in
+    let room = c .before .before .before .before .before .before .before .before .before .before .before .before .before .before .before .before .before .before .before .before .if1 .left in
+    let u : usedTo (l .at) (a .input .now) ≡ l .at = omega (arith, more) in
+    let yes = sym (c .before .before .before .before .before .before .before .before .before .before .before .before .before .before .before .before .before .before .is-line .ensures) ∙ not-false _ (c .before .before .before .before .before .before .before .before .before .before .before .before .before .before .before .before .before .if2 .left) in
+    let r = c .before .before .before .before .before .before .before .make .ensures in
+    let p = c .before .before .print-answer .ensures in
+    let d = call-done _ (l .next) (memoryOf (l .image) (l .store)) _ _ (c .before .before .before .before .before .before .before .before .before .before .before .before .before .line .given .1) _ (r .0) (r .1 .0) (p .0) (p .1) in
+    let t = lines-turn (a .ends) (length (a .out .now)) (l .next) (l .image) (l .store) (l .out) (l .end) (usedTo (l .at) (a .input .now)) (l .inv .1)
+    (omega (arith, room, l .inv .4)) (a .input .now) (l .at) (e .result) (e .ensures .0) (e .ensures .1) (e .ensures .2) yes u _ _ (l .image) (l .store)
+    (c .before .before .before .before .before .before .before .before .before .before .before .before .before .before .before .line-of .ensures) d _ (l .inv .5) in
+    (omega (arith, e .ensures .1), omega (arith, t .0, t .1, room), l .inv .2, l .inv .3, t .1 ∙ l .inv .4, t .2)
+
+enum-known-line-2 : tie.Need-enum-known-line-2 Inv-loop μ-loop
+enum-known-line-2 c = search needs
+
+cast-info-of : tie.Need-cast-info-of Inv-loop μ-loop
+cast-info-of c = search needs
+
+info-of-requires : tie.Need-info-of-requires Inv-loop μ-loop
+info-of-requires c κs = search needs
+
+print-info-requires : tie.Need-print-info-requires Inv-loop μ-loop
+print-info-requires c κs = omega (arith, c .before .before .before .before .before .before .before .before .before .before .before .before .before .if1 .left)
+
+loop-less-3 : tie.Need-loop-less-3 Inv-loop μ-loop
+loop-less-3 c = omega (arith, c .before .before .before .before .before .before .before .before .before .before .before .before .before .before .before .before .before .loop-test .taken, c .before .before .before .before .before .before .before .before .before .before .before .before .before .before .before .part-end .ensures .0)
+
+loop-again-3 : tie.Need-loop-again-3 Inv-loop μ-loop
+loop-again-3 c =
+    let l = c .before .before .before .before .before .before .before .before .before .before .before .before .before .before .before .before .before .before .loop in
     let a = c .before .before .before .before .before .before .before .before .before .before .before .before .before .before .before .before .before .before .before .before .before .before .before .args in
     let e = c .before .before .before .before .before .before .before .before .before .before .before .before .before .before .before .part-end in
-    let p = c .before .before .before .before .before .before .before .before .before .play .ensures in
-    let line = word (a .input .now) (l .at) (e .result) in
-    let long : length line ≡ e .result - l .at = word-length (a .input .now) (l .at) (e .result) (omega arith) (omega arith) in
-    let here = cutFrom 10 (a .input .now) (l .at) in
-    let there = cutFrom 10 (a .input .now) (e .result + 1) in (
-      omega arith,
-      omega (arith, p .1 .1 .1 .1, p .1 .1 .1 .0 .long),
-      omega (arith, c .before .before .before .before .before .before .before .before .image2 .given),
-      omega (arith, c .before .before .before .before .before .before .store2 .given),
-      p .1 .1 .1 .0 .long ∙ l .inv .4,
-      ap (playedLines (a .ends) (length (a .out .now)) there)
-          (played-more (l .next) _ (l .image) (l .store) _ _ (l .out) _ line (l .end) _ (l .at) (e .result + 1) (length line + 1) (p .0) (p .1 .0) (p .1 .1 .0) (p .1 .1 .1 .0) (omega arith))
-          ∙ sym (lines-more (a .ends) (length (a .out .now)) (l .next) (l .image) (l .store) (l .out) (l .end) (l .at) (omega arith) (omega arith) here there line (e .ensures .2)
-          (more-fields 10 (a .input .now) (e .result + 1) (omega arith)))
-          ∙ l .inv .5,
-    )
+    let more = c .before .before .before .before .before .before .before .before .before .before .before .before .before .before .before .before .before .loop-test .taken in
+    let room = c .before .before .before .before .before .before .before .before .before .before .before .before .before .before .before .before .if1 .left in
+    let u : usedTo (l .at) (a .input .now) ≡ l .at = omega (arith, more) in
+    let yes = sym (c .before .before .before .before .before .before .before .before .before .before .before .before .before .before .is-line .ensures) ∙ not-false _ (c .before .before .before .before .before .before .before .before .before .before .before .before .before .if2 .left) in
+    let r = c .before .before .before .before .info-of .ensures in
+    let p = c .before .before .print-info .ensures in
+    let d = info-done _ (l .next) (memoryOf (l .image) (l .store)) _ (c .before .before .before .before .before .before .before .before .before .line2 .given .1) _ _ (r .0 (l .next .ages)) (r .1 (l .next .ages)) (p .0) (p .1) in
+    let t = lines-turn (a .ends) (length (a .out .now)) (l .next) (l .image) (l .store) (l .out) (l .end) (usedTo (l .at) (a .input .now)) (l .inv .1)
+    (omega (arith, room, l .inv .4)) (a .input .now) (l .at) (e .result) (e .ensures .0) (e .ensures .1) (e .ensures .2) yes u _ (l .next) (l .image) (l .store)
+    (c .before .before .before .before .before .before .before .before .before .before .before .line-of .ensures) d _ (l .inv .5) in
+    (omega (arith, e .ensures .1), omega (arith, t .0, t .1, room), l .inv .2, l .inv .3, t .1 ∙ l .inv .4, t .2)
+
+enum-known-line-3 : tie.Need-enum-known-line-3 Inv-loop μ-loop
+enum-known-line-3 c = search needs
+
+round-change-requires : tie.Need-round-change-requires Inv-loop μ-loop
+round-change-requires c κs = search needs
+
+print-round-requires : tie.Need-print-round-requires Inv-loop μ-loop
+print-round-requires c κs =
+    let l = c .before .before .before .before .before .before .before .before .before .before .before .before .before .before .before .before .before .before .before .before .before .before .before .before .before .loop in
+    let r = c .before .before .before .before .before .before .before .before .round-change .ensures in
+    (omega (arith, c .before .before .before .before .before .before .before .before .before .before .before .before .before .before .before .before .before .before .before .before .before .before .before .if1 .left), λ z. round-shows (l .next) _ (memoryOf (l .image) (l .store)) (sym (r .0) ∙ z) _ (r .1 .0))
+
+loop-less-4 : tie.Need-loop-less-4 Inv-loop μ-loop
+loop-less-4 c = omega (arith, c .before .before .before .before .before .before .before .before .before .before .before .before .before .before .before .before .before .before .before .before .before .before .before .before .before .before .before .loop-test .taken, c .before .before .before .before .before .before .before .before .before .before .before .before .before .before .before .before .before .before .before .before .before .before .before .before .before .part-end .ensures .0)
+
+loop-again-4 : tie.Need-loop-again-4 Inv-loop μ-loop
+loop-again-4 c =
+    let l = c .before .before .before .before .before .before .before .before .before .before .before .before .before .before .before .before .before .before .before .before .before .before .before .before .before .before .before .before .loop in
+    let a = c .before .before .before .before .before .before .before .before .before .before .before .before .before .before .before .before .before .before .before .before .before .before .before .before .before .before .before .before .before .before .before .before .before .args in
+    let e = c .before .before .before .before .before .before .before .before .before .before .before .before .before .before .before .before .before .before .before .before .before .before .before .before .before .part-end in
+    let more = c .before .before .before .before .before .before .before .before .before .before .before .before .before .before .before .before .before .before .before .before .before .before .before .before .before .before .before .loop-test .taken in
+    let room = c .before .before .before .before .before .before .before .before .before .before .before .before .before .before .before .before .before .before .before .before .before .before .before .before .before .before .if1 .left in
+    let u : usedTo (l .at) (a .input .now) ≡ l .at = omega (arith, more) in
+    let yes = sym (c .before .before .before .before .before .before .before .before .before .before .before .before .before .before .before .before .before .before .before .before .before .before .before .before .is-line .ensures) ∙ not-false _ (c .before .before .before .before .before .before .before .before .before .before .before .before .before .before .before .before .before .before .before .before .before .before .before .if2 .left) in
+    let r = c .before .before .before .before .before .before .before .before .before .before .before .round-change .ensures in
+    let p = c .before .before .print-round .ensures in
+    let d = round-done _ (l .next) (memoryOf (l .image) (l .store)) _ _ _ _ _ (memoryOf _ _) (c .before .before .before .before .before .before .before .before .before .before .before .before .before .before .before .before .before .before .before .line3 .given .1) _ (r .0) (r .1 .0) (r .1 .1 .0) (r .1 .1 .1) (p .0) (p .1) in
+    let t = lines-turn (a .ends) (length (a .out .now)) (l .next) (l .image) (l .store) (l .out) (l .end) (usedTo (l .at) (a .input .now)) (l .inv .1)
+    (omega (arith, room, l .inv .4)) (a .input .now) (l .at) (e .result) (e .ensures .0) (e .ensures .1) (e .ensures .2) yes u _ _ _ _
+    (c .before .before .before .before .before .before .before .before .before .before .before .before .before .before .before .before .before .before .before .before .before .line-of .ensures) d _ (l .inv .5) in
+    (omega (arith, e .ensures .1), omega (arith, t .0, t .1, room), omega (arith, c .before .before .before .before .before .before .before .before .before .before .image .given), omega (arith, c .before .before .before .before .before .before .before .before .store .given), t .1 ∙ l .inv .4, t .2)
 
 same-length-7 : tie.Need-same-length-7 Inv-loop μ-loop
 same-length-7 c = search needs
@@ -128,7 +246,16 @@ same-length-9 : tie.Need-same-length-9 Inv-loop μ-loop
 same-length-9 c = search needs
 
 returns-3 : tie.Need-returns-3 Inv-loop μ-loop
-returns-3 c = absurd (omega arith)
+unfolding playedLines
+returns-3 c =
+    let l = c .before .loop in
+    let a = c .before .before .before .before .before .before .args in
+    let u : length (a .input .now) ≡ usedTo (l .at) (a .input .now) = omega arith in (
+      ap (sessionOf (l .next) (l .image) (l .store) (l .out) (l .end)) u
+          ∙ ap (λ F. playedLines (a .ends) (length (a .out .now)) F (sessionOf (l .next) (l .image) (l .store) (l .out) (l .end) (usedTo (l .at) (a .input .now)))) (sym (fields-past 10 (a .input .now) (l .at) (omega arith)))
+          ∙ l .inv .5,
+      (omega arith, omega arith),
+    )
 
 pub play-lines-spec : {M : Type 1} → statement M
 play-lines-spec =
@@ -143,21 +270,40 @@ play-lines-spec =
     same-length-3
     returns
     part-end-requires
-    sub-play-last
-    part-play-last-start
-    part-play-last-end
-    play-last-requires
+    is-line-requires
     same-length-4
     same-length-5
     same-length-6
     returns-2
-    sub-play
-    part-play-start
-    part-play-end
-    play-requires
+    sub-line-of
+    part-line-of-start
+    part-line-of-end
+    line-of-requires
     add-at
+    enum-told
+    question-line-requires
     loop-less
     loop-again
+    enum-known-line
+    make-requires
+    mul-area
+    element-set-from-area
+    mul-device
+    element-set-from-device
+    print-answer-requires
+    loop-less-2
+    loop-again-2
+    enum-known-line-2
+    cast-info-of
+    info-of-requires
+    print-info-requires
+    loop-less-3
+    loop-again-3
+    enum-known-line-3
+    round-change-requires
+    print-round-requires
+    loop-less-4
+    loop-again-4
     same-length-7
     same-length-8
     same-length-9
