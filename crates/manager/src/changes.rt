@@ -50,11 +50,13 @@ impl Change {
     fn none(areas: [Area; 8], devices: [Device; 4], ages: [u8; 8], answer: Admission) -> Change
         ensures { λ r. ⌜ r ≡ unchanged areas devices ages answer ⌝ }
     {
+        let area = areas[0];
+        let device = devices[0];
         Change {
             area_number: 0,
-            area: areas[0],
+            area,
             device_number: 0,
-            device: devices[0],
+            device,
             ages,
             answer,
         }
