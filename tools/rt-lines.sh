@@ -1,6 +1,9 @@
 # shellcheck shell=sh
 # Sourced: rt's lines as they come.
 
+# rt waits for the slowest of a batch before it starts the next, so a batch is larger than two cores need.
+export RT_JOBS="${RT_JOBS:-4}"
+
 room=$(mktemp -d)
 trap 'rm -rf "$room"' EXIT
 
