@@ -38,7 +38,7 @@ fn is_line(at: usize, to: usize, length: usize, ends: bool) -> bool
 
 // The lines of the input, as long as the longest answer has room; what stands behind the last line end is a line only
 // where the input ends there. Left open are the bytes of `out` behind those written.
-// Each line ends its turn by itself, so each leaves its own next turn to prove.
+// Each arm ends its turn by `continue`: where arms join, the lengths of the lent slices would be forgotten.
 pub fn play_lines(
     manager: Manager,
     input: &[u8],

@@ -8,7 +8,7 @@ ghost use Rattle.memory.specs.Numbers.{admissionNumber};
 ghost use Rattle.shown.specs.Shown.{devicesLine};
 ghost use Rattle.texts.specs.Appended.{Appended};
 ghost use Rattle.texts.specs.Texts.{numberLine};
-ghost use Rattle.session.specs.Play.{taskIn, numberOfCall, afterCall, infoText};
+ghost use Rattle.session.specs.Play.{numberOfCall, afterCall, infoText};
 ghost use Rattle.session.specs.laws.PlayLaws.{jobOf, plainOf};
 use lines::LineCall;
 use lines::Target;

@@ -1,6 +1,4 @@
-use mathlib.Core.Path.{refl}
 use borrow.Author.Tests.{lt-ltb, le-ltb, not-true, not-false}
-use borrow.Author.Needs.{needs}
 use Rattle.session.proofs.fold.is_line.Statement.{statement}
 use Rattle.session.proofs.fold.is_line.Tie as tie
 use Rattle.session.proofs.fold.is_line.Reads as reads

@@ -1,5 +1,4 @@
 use Prim.Native.Nat.{_+_, _-_, _≤_}
-use mathlib.Core.Bool.{not}
 use mathlib.Core.Path.{_≡_, refl, sym, ap, _∙_}
 use lib.ListN.{length}
 use native.Mathlib.Omega.{arith}

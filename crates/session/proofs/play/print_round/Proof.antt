@@ -1,5 +1,4 @@
 use native.Mathlib.Omega.{arith}
-use mathlib.Core.Path.{sym}
 use Rattle.session.specs.laws.RoundLaws.{round-refused, round-accepted}
 use borrow.Author.Needs.{needs}
 use Rattle.session.proofs.play.print_round.Statement.{statement}
