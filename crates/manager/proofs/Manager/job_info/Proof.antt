@@ -6,7 +6,7 @@ use Rattle.manager.proofs.Manager.job_info.Statement.{statement}
 use Rattle.manager.proofs.Manager.job_info.Tie as tie
 use Rattle.manager.proofs.Manager.job_info.Reads as reads
 use Rattle.manager.proofs.Manager.job_info.Lts as lts
-use Rattle.machine.proofs.queries.job_info.Reads as job-info-reads
+use Rattle.queries.proofs.job_info.Reads as job-info-reads
 use Rattle.manager.proofs.Manager.query_admission.Reads as query-admission-reads
 use Rattle.manager.proofs.no_job_info.Reads as no-job-info-reads
 
