@@ -1,5 +1,3 @@
-pub mod QueryLaws
-pub mod QuestionLaws
 pub mod Dues
 pub mod Arrays
 pub mod SoundLaws

@@ -74,8 +74,8 @@ fn holds(device: Device, area: usize) -> bool
     suspended_for(suspended, area)
 }
 
-// Does a device hold a request of the area?
-pub(crate) fn held_somewhere(devices: [Device; 4], area: usize) -> bool
+// Does a device hold a request of the area? Job info (`queries`) asks it too.
+pub fn held_somewhere(devices: [Device; 4], area: usize) -> bool
     ensures { λ r. ⌜ r ≡ some (λ d. holds area (deviceIn devices d)) 4 ⌝ }
 {
     let mut d = 0;
@@ -110,8 +110,8 @@ fn area_held(plan: Plan, job: Job, devices: [Device; 4], area: usize) -> bool
     request_held(plan, job, devices, area)
 }
 
-// Is the device locked for the area?
-pub(crate) fn holds_lock(devices: [Device; 4], device: usize, area: usize) -> bool
+// Is the device locked for the area? A release (`questions`) asks it.
+pub fn holds_lock(devices: [Device; 4], device: usize, area: usize) -> bool
     ensures { λ r. ⌜ r ≡ holdsLock area (stateIn devices device) ⌝ }
 {
     let state = state_on(devices, device);

@@ -40,8 +40,8 @@ fn locate_due(
     locate(sub_areas, count, start, area, address, job.processed)
 }
 
-// One copy of the records serves all lookups of the loop; `segment_from` would make one more for each.
-pub(crate) fn due_segments(
+// For a round's questions (`questions`). One copy of the records serves all lookups of the loop; `segment_from` would make one more for each.
+pub fn due_segments(
     sub_areas: [SubAreaRecord; 32],
     count: usize,
     area_records: [AreaRecord; 8],
@@ -66,8 +66,8 @@ pub(crate) fn due_segments(
     dues
 }
 
-// The soundness test of the devices' states, with the due segments.
-pub(crate) fn states_fit(
+// The soundness test of the devices' states, with the due segments, for a round's questions.
+pub fn states_fit(
     device_records: [DeviceRecord; 4],
     device_count: usize,
     area_records: [AreaRecord; 8],

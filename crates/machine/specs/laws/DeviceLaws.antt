@@ -1,6 +1,6 @@
 -- What a device does for an area, as the code asks it.
 use Prim.Native.Nat.{ℕ, _<_}
-use mathlib.Core.Bool.{Bool, true, false, _||_, false≢true, true≢false}
+use mathlib.Core.Bool.{Bool, true, false, false≢true, true≢false}
 use mathlib.Core.List.{List}
 use mathlib.Core.Path.{_≡_, refl, ap, sym, _∙_}
 use native.Mathlib.Omega.{arith}
@@ -12,13 +12,10 @@ use Rattle.memory.specs.declared.Task.{Task}
 use Rattle.plan.specs.declared.records.Plan.{Plan}
 use Rattle.rules.specs.Admission.{holdsLock}
 use Rattle.rules.specs.Layout.{Layout, layoutOf}
-use Rattle.rules.specs.Machine.{Core, due, need, begunWith, begun, cancelled, ended, runsFor, keptFor, holds, cancel}
-use Rattle.rules.specs.Queries.{noRequest, requestOn}
+use Rattle.rules.specs.Machine.{Core, need, begunWith, begun, cancelled, ended, holds, cancel}
 use Rattle.segment.specs.Segments.{segmentAt}
 use Rattle.segment.specs.declared.Segment.{Segment}
 use Rattle.state.specs.declared.Device.{Device}
-use Rattle.state.specs.declared.DeviceState.{DeviceState}
-use Rattle.state.specs.declared.DeviceState.the-variants.{Free, Runs, LockedFor}
 use Rattle.state.specs.declared.Job.{Job}
 use Rattle.machine.specs.laws.Arrays.{device-past, state-past}
 use Rattle.machine.specs.Sound.{deviceIn, stateIn}
@@ -28,11 +25,7 @@ pub lock-known : (devices : List Device) (d a n : ℕ) → length devices ≡ n 
 lock-known devices d a n e h =
     by-leb n d (λ _ l. absurd (false≢true (sym (ap (holdsLock a) (state-past devices d (omega (arith, e, l)))) ∙ h))) (λ _ l. l)
 
-first-false : (s t : Bool) → (s || t) ≡ false → s ≡ false
-first-false true t e = e
-first-false false t e = refl
-
--- where no device holds a request of area a: nor does the one that its job needs, and it has none running
+-- where no device holds a request of area a: nor does the one that its job needs
 module _ (devices : List Device) (a n : ℕ) (long : length devices ≡ n) (none : some (λ d. holds a (deviceIn devices d)) n ≡ false) where
   pub none-held : (d : ℕ) → holds a (deviceIn devices d) ≡ false
   none-held d =
@@ -40,24 +33,11 @@ module _ (devices : List Device) (a n : ℕ) (long : length devices ≡ n) (none
       (λ _ l. ap (holds a) (device-past devices d (omega (arith, long, l))))
       (λ _ l. by-bool (holds a (deviceIn devices d)) (λ t. absurd (true≢false (sym (some-intro (λ k. holds a (deviceIn devices k)) n d l t) ∙ none))) (λ f. f))
 
-  pub none-request : (s : Segment) (d : ℕ) → noRequest ≡ requestOn a s (stateIn devices d)
-  none-request s d = no-run (stateIn devices d) (first-false (runsFor a (stateIn devices d)) (keptFor a (deviceIn devices d .suspended)) (none-held d))
-    where
-      no-run : (x : DeviceState) → runsFor a x ≡ false → noRequest ≡ requestOn a s x
-      no-run Free e = refl
-      no-run (LockedFor b) e = refl
-      no-run (Runs b polls) e = rw e
-
 -- the segment s that is due of job j, and the device that it lies on
 module _ (p : Plan) (j : Job) (devices : List Device) (a : ℕ) (s : Segment) (is : s ≡ segmentAt p a (j .task) (j .processed)) where
   pub area-held : (x : Device) → x ≡ deviceIn devices (s .device) → holds a x ≡ holds a (deviceIn devices (need (layoutOf p) a j))
   unfolding layoutOf
   area-held x here = ap (holds a) here ∙ ap (λ t. holds a (deviceIn devices (t .device))) is
-
-  pub request-of : (x : DeviceState) → x ≡ stateIn devices (s .device) →
-      requestOn a s x ≡ requestOn a (due (layoutOf p) a j) (stateIn devices (need (layoutOf p) a j))
-  unfolding layoutOf
-  request-of x here = ap (requestOn a s) here ∙ ap (λ t. requestOn a t (stateIn devices (t .device))) is
 
 -- the job of an accepted task, whose first segment may take r retries
 pub begun-first : (p : Plan) (a : ℕ) (t : Task) (j : Job) (r : ℕ) → r ≡ segmentAt p a t 0 .retries → begunWith r t j ≡ begun (layoutOf p) a t j

@@ -8,8 +8,8 @@ use Rattle.manager.proofs.info_of.Statement.{statement}
 use Rattle.manager.proofs.info_of.Tie as tie
 use Rattle.manager.proofs.info_of.Reads as reads
 use Rattle.manager.proofs.info_of.Lts as lts
-use Rattle.machine.proofs.queries.job_info.Reads as job-info-reads
-use Rattle.machine.proofs.questions.info_admission.Reads as info-admission-reads
+use Rattle.queries.proofs.job_info.Reads as job-info-reads
+use Rattle.questions.proofs.info_admission.Reads as info-admission-reads
 use Rattle.machine.proofs.soundness.is_sound.Reads as is-sound-reads
 use Rattle.manager.proofs.no_job_info.Reads as no-job-info-reads
 

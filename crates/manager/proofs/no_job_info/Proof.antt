@@ -3,7 +3,7 @@ use Rattle.manager.proofs.no_job_info.Statement.{statement}
 use Rattle.manager.proofs.no_job_info.Tie as tie
 use Rattle.manager.proofs.no_job_info.Reads as reads
 use Rattle.manager.proofs.no_job_info.Lts as lts
-use Rattle.machine.proofs.queries.no_request.Reads as no-request-reads
+use Rattle.queries.proofs.no_request.Reads as no-request-reads
 use Rattle.state.proofs.Area.fresh.Reads as fresh-reads
 
 fresh-requires : tie.Need-fresh-requires

@@ -22,7 +22,7 @@ use Rattle.memory.specs.declared.Refusal.{Refusal}
 use Rattle.memory.specs.declared.LogicalAddress.{LogicalAddress}
 use Rattle.memory.specs.declared.Task.{Task}
 use Rattle.machine.specs.laws.DeviceLaws.{begun-first, lock-known}
-use Rattle.machine.specs.laws.QuestionLaws.{devicesAlone}
+use Rattle.questions.specs.laws.QuestionLaws.{devicesAlone}
 use Rattle.machine.specs.Sound.{jobIn, deviceIn, isSound}
 use Rattle.machine.specs.laws.SoundCases.{sound-few}
 use Rattle.turns.specs.Close.{waitsIn, areasAfter, devicesAfter, halvesOf}

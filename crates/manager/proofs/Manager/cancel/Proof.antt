@@ -10,7 +10,7 @@ use Rattle.manager.proofs.Manager.cancel.Statement.{statement}
 use Rattle.manager.proofs.Manager.cancel.Tie as tie
 use Rattle.manager.proofs.Manager.cancel.Reads as reads
 use Rattle.manager.proofs.Manager.cancel.Lts as lts
-use Rattle.machine.proofs.questions.cancel_admission.Reads as cancel-admission-reads
+use Rattle.questions.proofs.cancel_admission.Reads as cancel-admission-reads
 use Rattle.manager.proofs.Manager.with.Reads as with-reads
 use Rattle.manager.proofs.changes.ask.Reads as ask-reads
 use Rattle.manager.proofs.changes.stop.Reads as stop-reads

@@ -7,9 +7,9 @@ use Rattle.manager.proofs.Manager.memory_info.Statement.{statement}
 use Rattle.manager.proofs.Manager.memory_info.Tie as tie
 use Rattle.manager.proofs.Manager.memory_info.Reads as reads
 use Rattle.manager.proofs.Manager.memory_info.Lts as lts
-use Rattle.machine.proofs.queries.memory_info.Reads as memory-info-reads
-use Rattle.machine.proofs.queries.no_memory.Reads as no-memory-reads
-use Rattle.machine.proofs.questions.memory_admission.Reads as memory-admission-reads
+use Rattle.queries.proofs.memory_info.Reads as memory-info-reads
+use Rattle.queries.proofs.no_memory.Reads as no-memory-reads
+use Rattle.questions.proofs.memory_admission.Reads as memory-admission-reads
 use Rattle.machine.proofs.soundness.is_sound.Reads as is-sound-reads
 
 is-sound-requires : tie.Need-is-sound-requires

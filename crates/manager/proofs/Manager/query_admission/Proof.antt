@@ -4,7 +4,7 @@ use Rattle.manager.proofs.Manager.query_admission.Statement.{statement}
 use Rattle.manager.proofs.Manager.query_admission.Tie as tie
 use Rattle.manager.proofs.Manager.query_admission.Reads as reads
 use Rattle.manager.proofs.Manager.query_admission.Lts as lts
-use Rattle.machine.proofs.questions.info_admission.Reads as info-admission-reads
+use Rattle.questions.proofs.info_admission.Reads as info-admission-reads
 use Rattle.machine.proofs.soundness.is_sound.Reads as is-sound-reads
 
 is-sound-requires : tie.Need-is-sound-requires

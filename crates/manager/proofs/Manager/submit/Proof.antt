@@ -13,7 +13,7 @@ use Rattle.manager.proofs.Manager.submit.Statement.{statement}
 use Rattle.manager.proofs.Manager.submit.Tie as tie
 use Rattle.manager.proofs.Manager.submit.Reads as reads
 use Rattle.manager.proofs.Manager.submit.Lts as lts
-use Rattle.machine.proofs.questions.idle_admission.Reads as idle-admission-reads
+use Rattle.questions.proofs.idle_admission.Reads as idle-admission-reads
 use Rattle.manager.proofs.Manager.with.Reads as with-reads
 use Rattle.manager.proofs.changes.ask.Reads as ask-reads
 use Rattle.manager.proofs.changes.begin.Reads as begin-reads

@@ -10,7 +10,7 @@ use Rattle.manager.proofs.changes.cancel_change.Statement.{statement}
 use Rattle.manager.proofs.changes.cancel_change.Tie as tie
 use Rattle.manager.proofs.changes.cancel_change.Reads as reads
 use Rattle.manager.proofs.changes.cancel_change.Lts as lts
-use Rattle.machine.proofs.questions.cancel_admission.Reads as cancel-admission-reads
+use Rattle.questions.proofs.cancel_admission.Reads as cancel-admission-reads
 use Rattle.manager.proofs.changes.Change.none.Reads as none-reads
 use Rattle.manager.proofs.changes.ask.Reads as ask-reads
 use Rattle.manager.proofs.changes.stop.Reads as stop-reads

@@ -13,7 +13,7 @@ use Rattle.manager.proofs.changes.job_change.Statement.{statement}
 use Rattle.manager.proofs.changes.job_change.Tie as tie
 use Rattle.manager.proofs.changes.job_change.Reads as reads
 use Rattle.manager.proofs.changes.job_change.Lts as lts
-use Rattle.machine.proofs.questions.idle_admission.Reads as idle-admission-reads
+use Rattle.questions.proofs.idle_admission.Reads as idle-admission-reads
 use Rattle.manager.proofs.changes.Change.none.Reads as none-reads
 use Rattle.manager.proofs.changes.ask.Reads as ask-reads
 use Rattle.manager.proofs.changes.begin.Reads as begin-reads

@@ -12,7 +12,7 @@ use Rattle.manager.proofs.changes.release_change.Tie as tie
 use Rattle.manager.proofs.changes.release_change.Reads as reads
 use Rattle.manager.proofs.changes.release_change.Lts as lts
 use Rattle.admission.proofs.range_device.Reads as range-device-reads
-use Rattle.machine.proofs.questions.release_admission.Reads as release-admission-reads
+use Rattle.questions.proofs.release_admission.Reads as release-admission-reads
 use Rattle.machine.proofs.soundness.is_sound.Reads as is-sound-reads
 use Rattle.manager.proofs.changes.Change.none.Reads as none-reads
 

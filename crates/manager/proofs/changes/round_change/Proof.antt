@@ -8,7 +8,7 @@ use Rattle.manager.proofs.changes.round_change.Statement.{statement}
 use Rattle.manager.proofs.changes.round_change.Tie as tie
 use Rattle.manager.proofs.changes.round_change.Reads as reads
 use Rattle.manager.proofs.changes.round_change.Lts as lts
-use Rattle.machine.proofs.questions.round_admission.Reads as round-admission-reads
+use Rattle.questions.proofs.round_admission.Reads as round-admission-reads
 use Rattle.rounds.proofs.halves.run_round.Reads as run-round-reads
 
 round-admission-requires : tie.Need-round-admission-requires
