@@ -8,7 +8,7 @@ use Rattle.manager.specs.Load.{loadedManager}
 use Rattle.manager.specs.declared.Manager.{Manager}
 use Rattle.plan.specs.Records.{planOf}
 use Rattle.plan.specs.declared.records.Plan.{Plan}
-use Rattle.turns.specs.Close.{mostWaits, waitsIn}
+use Rattle.close.specs.Close.{mostWaits, waitsIn}
 use Rattle.rules.specs.History.{Tally, History, freshHistory, step, run}
 use Rattle.rules.specs.Machine.{Core}
 use Rattle.rules.specs.statements.Moments.{Moment, Run}

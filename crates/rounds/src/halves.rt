@@ -5,23 +5,23 @@ ghost use Rattle.machine.specs.laws.Dues.{Due};
 ghost use Rattle.machine.specs.Sound.{jobIn, isSound};
 ghost use Rattle.rules.specs.Admission.{imageFits, storeReaches};
 ghost use Rattle.rules.specs.Layout.{layoutAt};
-ghost use Rattle.turns.specs.Close.{areasAfter, devicesAfter, halvesOf};
+ghost use Rattle.close.specs.Close.{areasAfter, devicesAfter, halvesOf};
 ghost use Rattle.rounds.specs.laws.NeedLaws.{needsOf};
 ghost use Rattle.requests.specs.Effects.{memoryOf};
 ghost use Rattle.state.specs.Ages.{ageIn};
+use answers::take_answer;
+use close::closed_area;
 use machine::devices::state_on;
 use machine::soundness::runner;
 use memory::DeviceAnswer;
+use picks::chosen;
+use picks::pick_area;
+use picks::slot_on;
+use picks::start_choice;
 use plan::records::Plan;
 use segment::Segment;
 use state::Area;
 use state::Device;
-use turns::answers::take_answer;
-use turns::close::closed_area;
-use turns::picks::chosen;
-use turns::picks::pick_area;
-use turns::picks::slot_on;
-use turns::picks::start_choice;
 
 // What moves in a manager.
 pub struct Arrays {

@@ -25,7 +25,7 @@ use Rattle.machine.specs.laws.DeviceLaws.{begun-first, lock-known}
 use Rattle.questions.specs.laws.QuestionLaws.{devicesAlone}
 use Rattle.machine.specs.Sound.{jobIn, deviceIn, isSound}
 use Rattle.machine.specs.laws.SoundCases.{sound-few}
-use Rattle.turns.specs.Close.{waitsIn, areasAfter, devicesAfter, halvesOf}
+use Rattle.close.specs.Close.{waitsIn, areasAfter, devicesAfter, halvesOf}
 use Rattle.rules.specs.Admission.{isKnown, rangeDevice, jobQuestions, releaseQuestions, cancelQuestions, infoQuestions, memoryInfoQuestions, imageFits, storeReaches, roundNumber}
 use Rattle.rules.specs.Layout.{layoutOf}
 use Rattle.rules.specs.Machine.{doing, begunWith, begin, cancel, release}

@@ -13,7 +13,7 @@ use Rattle.manager.specs.declared.Manager.{Manager}
 use Rattle.memory.specs.declared.DeviceAnswer.{DeviceAnswer}
 use Rattle.plan.specs.WellFormed.{WellFormed}
 use Rattle.plan.specs.declared.records.Plan.{Plan}
-use Rattle.turns.specs.Close.{halvesOf}
+use Rattle.close.specs.Close.{halvesOf}
 use Rattle.rules.specs.Admission.{admits, jobNumber, releaseNumber, cancelNumber, infoNumber, memoryInfoNumber, roundNumber}
 use Rattle.rules.specs.History.{Query, status, result, processed, jobInfo, memoryInfo, Call, submit, releases, cancels, asks, round, History, lent}
 use Rattle.rules.specs.Layout.{layoutOf}

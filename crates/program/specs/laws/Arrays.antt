@@ -9,7 +9,7 @@ use Rattle.arith.specs.Cases.{by-ltb}
 use Rattle.arith.specs.Tables.{table, length-table, table-at}
 use Rattle.machine.specs.laws.Arrays.{job-past, device-past}
 use Rattle.machine.specs.Sound.{jobIn, deviceIn, coreIn}
-use Rattle.turns.specs.Close.{closed, waitsIn, areaAfter, areasAfter, devicesAfter}
+use Rattle.close.specs.Close.{closed, waitsIn, areaAfter, areasAfter, devicesAfter}
 use Rattle.rules.specs.Layout.{Layout}
 use Rattle.rules.specs.Machine.{Core, isPending, waitOf}
 use Rattle.rules.specs.laws.RankLaws.{AgesApart}

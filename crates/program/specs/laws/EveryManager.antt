@@ -15,7 +15,7 @@ use Rattle.manager.specs.declared.Manager.{Manager}
 use Rattle.memory.specs.declared.DeviceAnswer.{DeviceAnswer}
 use Rattle.plan.specs.Questions.{areaOf, lengthSum}
 use Rattle.plan.specs.declared.records.Plan.{Plan}
-use Rattle.turns.specs.Close.{halvesOf}
+use Rattle.close.specs.Close.{halvesOf}
 use Rattle.rules.specs.Admission.{usesWindow, ifAsked, roundNumber}
 use Rattle.rules.specs.Answers.{isRound}
 use Rattle.rules.specs.History.{Call, submit, releases, cancels, asks, round}

@@ -9,7 +9,7 @@ use Rattle.arith.specs.Parts.{upd, upd-same, upd-other, upd-case, same-or}
 use Rattle.manager.specs.Calls.{coreOf, withArea, withAccepted, withDevice}
 use Rattle.manager.specs.declared.Manager.{Manager}
 use Rattle.memory.specs.declared.Task.{Task}
-use Rattle.turns.specs.Close.{waitsIn}
+use Rattle.close.specs.Close.{waitsIn}
 use Rattle.rules.specs.History.{noTally, History, withCore, submitted}
 use Rattle.rules.specs.Layout.{Layout, layoutOf}
 use Rattle.rules.specs.Machine.{Core, setJob, need, holds, begun, begin, cancelIf, cancel, release}

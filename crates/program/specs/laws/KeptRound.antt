@@ -7,7 +7,7 @@ use native.Mathlib.Omega.{arith}
 use Rattle.manager.specs.Calls.{coreOf, rankedOf}
 use Rattle.manager.specs.declared.Manager.{Manager}
 use Rattle.memory.specs.declared.DeviceAnswer.{DeviceAnswer}
-use Rattle.turns.specs.Close.{mostWaits, stick, counted, closed, areasAfter, devicesAfter, halvesOf}
+use Rattle.close.specs.Close.{mostWaits, stick, counted, closed, areasAfter, devicesAfter, halvesOf}
 use Rattle.rules.specs.History.{Tally, count, close, History, lent, roundOf}
 use Rattle.rules.specs.Machine.{Wait, own, above, below, locked, none, isPending, waitOf}
 use Rattle.rules.specs.Memory.{Memory}

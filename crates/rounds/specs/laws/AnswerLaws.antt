@@ -24,7 +24,7 @@ use Rattle.state.specs.declared.Device.{Device}
 use Rattle.state.specs.declared.DeviceState.{DeviceState}
 use Rattle.state.specs.declared.DeviceState.the-variants.{Free, Runs, LockedFor}
 use Rattle.state.specs.declared.Job.{Job}
-use Rattle.turns.specs.Close.{lentTo}
+use Rattle.close.specs.Close.{lentTo}
 use Rattle.requests.specs.Requests.{requestVerdict, requestJob, requestState, requestMemory, same-map, taken-core}
 
 -- both arrays with one entry changed

@@ -17,9 +17,8 @@ use Rattle.state.specs.declared.Area.{Area}
 use Rattle.state.specs.declared.Device.{Device}
 use Rattle.state.specs.declared.DeviceState.{DeviceState}
 use Rattle.state.specs.declared.DeviceState.the-variants.{Free, Runs, LockedFor}
-use Rattle.turns.specs.Close.{closed, waitsIn, areaAfter, areasAfter}
-use Rattle.turns.specs.laws.Picks.{needsLayout}
-use Rattle.turns.specs.laws.Waits.{rankLayout, closedArea}
+use Rattle.close.specs.Close.{closed, waitsIn, areaAfter, areasAfter}
+use Rattle.close.specs.laws.Waits.{needsLayout, rankLayout, closedArea}
 
 -- what a job waits for, by the layout with the needs
 wait-same : (records : List AreaRecord) (ages needs : List ℕ) (a : ℕ) (x : DeviceState) →

@@ -29,8 +29,8 @@ use Rattle.state.specs.declared.DeviceState.the-variants.{Free, Runs, LockedFor
 use Rattle.state.specs.declared.Suspended.{Suspended}
 use Rattle.state.specs.declared.Suspended.the-variants as Kept
 use Rattle.state.specs.declared.Waits.{Waits}
-use Rattle.turns.specs.Close.{closed, waitsIn, areasAfter, devicesAfter, lentTo, halvesOf}
-use Rattle.turns.specs.laws.Picks.{needsLayout}
+use Rattle.close.specs.Close.{closed, waitsIn, areasAfter, devicesAfter, lentTo, halvesOf}
+use Rattle.close.specs.laws.Waits.{needsLayout}
 
 -- the devices of the due segments
 unfoldable pub needsOf : List Segment → List ℕ

@@ -29,12 +29,13 @@ use Rattle.state.specs.declared.DeviceState.the-variants.{Free, Runs, LockedFor
 use Rattle.state.specs.declared.Suspended.{Suspended}
 use Rattle.state.specs.declared.Suspended.the-variants as Kept
 use Rattle.rounds.specs.laws.AnswerLaws.{core-set, device-changed, core-kept}
-use Rattle.turns.specs.laws.Picks.{needsLayout, betterOf, bestTo, readyIn, slotOf, isTaken, chosenIn, startOf, startWith}
-use Rattle.turns.specs.declared.picks.Best.{Best}
-use Rattle.turns.specs.declared.picks.Best.the-variants as Bests
-use Rattle.turns.specs.declared.picks.Slot.{Slot}
-use Rattle.turns.specs.declared.picks.Slot.the-variants as Slots
-use Rattle.turns.specs.declared.picks.Start.{Start}
+use Rattle.close.specs.laws.Waits.{needsLayout}
+use Rattle.picks.specs.laws.Picks.{betterOf, bestTo, readyIn, slotOf, isTaken, chosenIn, startOf, startWith}
+use Rattle.picks.specs.declared.Best.{Best}
+use Rattle.picks.specs.declared.Best.the-variants as Bests
+use Rattle.picks.specs.declared.Slot.{Slot}
+use Rattle.picks.specs.declared.Slot.the-variants as Slots
+use Rattle.picks.specs.declared.Start.{Start}
 
 -- a choice with the area's priority and age beside it
 abbrev withRank : List AreaRecord → List ℕ → Choice → Best

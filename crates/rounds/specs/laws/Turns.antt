@@ -29,10 +29,10 @@ use Rattle.state.specs.declared.DeviceState.{DeviceState}
 use Rattle.state.specs.declared.DeviceState.the-variants.{Free, Runs, LockedFor}
 use Rattle.state.specs.declared.Job.{Job}
 use Rattle.requests.specs.Requests.{Fits, request-fits, job-taken, due-taken, state-taken, memory-taken, found-fits}
-use Rattle.turns.specs.laws.Answers.{Lent, turnArea, turnState, turnDue, turnMemory}
+use Rattle.answers.specs.laws.Answers.{Lent, turnArea, turnState, turnDue, turnMemory}
 use Rattle.rounds.specs.laws.AnswerLaws.{core-kept, free-core, free-memory, locked-core, locked-memory, runs-core, runs-memory}
 use Rattle.rounds.specs.laws.Halves.{both}
-use Rattle.turns.specs.Close.{lentTo}
+use Rattle.close.specs.Close.{lentTo}
 
 -- one due segment more
 due-set : (p : Plan) (dues : List Segment) (jobs : ℕ → Job) (k : ℕ) (e : Segment) (j : Job) → k < length dues → Due p dues jobs →

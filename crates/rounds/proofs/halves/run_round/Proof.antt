@@ -9,13 +9,13 @@ use Rattle.machine.specs.Sound.{jobIn, coreIn}
 use Rattle.requests.specs.Effects.{memoryOf}
 use Rattle.rules.specs.Machine.{secondHalf}
 use Rattle.rules.specs.Round.{takeAll, answerFor}
-use Rattle.turns.specs.Close.{areaAfter, lentTo}
+use Rattle.close.specs.Close.{areaAfter, lentTo}
 use Rattle.rounds.specs.laws.AnswerLaws.{turn-sound, image-again, store-again}
 use Rattle.rounds.specs.laws.CloseLaws.{ClosedTo, closed-none, closed-turn, closed-all}
 use Rattle.rounds.specs.laws.Halves.{both, take-turn}
 use Rattle.rounds.specs.laws.NeedLaws.{whole-areas, whole-devices, whole-memory}
 use Rattle.rounds.specs.laws.PickLaws.{start-turn, second-turn}
-use Rattle.turns.specs.laws.Picks.{needsLayout}
+use Rattle.close.specs.laws.Waits.{needsLayout}
 use Rattle.rounds.specs.laws.Turns.{lent-turn, whole-turn}
 use borrow.Author.Needs.{needs, elem-fits}
 use Rattle.rounds.proofs.halves.run_round.Statement.{statement}
@@ -24,13 +24,13 @@ use Rattle.rounds.proofs.halves.run_round.Reads as reads
 use Rattle.rounds.proofs.halves.run_round.Lts as lts
 use Rattle.machine.proofs.devices.state_on.Reads as state-on-reads
 use Rattle.machine.proofs.soundness.runner.Reads as runner-reads
-use Rattle.turns.proofs.answers.take_answer.Reads as take-answer-reads
-use Rattle.turns.proofs.close.closed_area.Reads as closed-area-reads
-use Rattle.turns.proofs.picks.chosen.Reads as chosen-reads
+use Rattle.answers.proofs.take_answer.Reads as take-answer-reads
+use Rattle.close.proofs.closed_area.Reads as closed-area-reads
+use Rattle.picks.proofs.chosen.Reads as chosen-reads
 use Rattle.rounds.proofs.halves.needed_devices.Reads as needed-devices-reads
-use Rattle.turns.proofs.picks.pick_area.Reads as pick-area-reads
-use Rattle.turns.proofs.picks.slot_on.Reads as slot-on-reads
-use Rattle.turns.proofs.picks.start_choice.Reads as start-choice-reads
+use Rattle.picks.proofs.pick_area.Reads as pick-area-reads
+use Rattle.picks.proofs.slot_on.Reads as slot-on-reads
+use Rattle.picks.proofs.start_choice.Reads as start-choice-reads
 
 abbrev Inv-loop : tie.InvT-loop
 Inv-loop plan ages image₀ store₀ answers areas₀ devices₀ dues₀ before sub-areas records device-records d₀ image store areas devices dues d =
