@@ -1,4 +1,4 @@
-// The lines of an input, played one after the other on a manager that stays in one place: what a line changes is written back.
+// The lines of an input, played one after the other on a manager whose parts stay in one place: what a line changes is written back.
 ghost use mathlib.Core.Path.{_≡_};
 ghost use Prim.Native.Nat.{_≤_};
 ghost use lib.ListN.{length};
@@ -50,26 +50,41 @@ pub fn play_lines(
     ensures { λ r. ⌜ sessionOf (r .manager) (now (image .exit)) (now (store .exit)) (now (out .exit)) (r .written) (r .used) ≡ playedInput ends (length (now (out .entry))) (now (input .entry)) (sessionOf manager (now (image .entry)) (now (store .entry)) (now (out .entry)) 0 0) ⌝ }
     ensures { λ r. ⌜ (r .written ≤ length (now (out .exit))) × (r .used ≤ length (now (input .entry))) ⌝ }
 {
-    let mut next = manager;
+    let plan = manager.plan;
+    let mut areas = manager.areas;
+    let mut devices = manager.devices;
+    let mut ages = manager.ages;
     let mut at = 0;
     let mut end = 0;
     while at <= input.len() {
         if out.len() < end + 338 {
+            let manager = Manager {
+                plan,
+                areas,
+                devices,
+                ages,
+            };
             return Progress {
-                manager: next,
+                manager,
                 used: at,
                 written: end,
             };
         }
         let to = part_end(input, b'\n', at);
         if !is_line(at, to, input.len(), ends) {
+            let manager = Manager {
+                plan,
+                areas,
+                devices,
+                ages,
+            };
             return Progress {
-                manager: next,
+                manager,
                 used: at,
                 written: end,
             };
         }
-        let line = line_of(&input[at..to], next.plan.device_count);
+        let line = line_of(&input[at..to], plan.device_count);
         at = to + 1;
         match line {
             Line::Unreadable => {
@@ -77,26 +92,20 @@ pub fn play_lines(
                 continue;
             }
             Line::Call(call) => {
-                let areas = next.areas;
-                let devices = next.devices;
-                let ages = next.ages;
-                let change = make(next.plan, areas, devices, ages, call);
+                let change = make(plan, areas, devices, ages, call);
                 let area_number = change.area_number;
                 let area = change.area;
                 let device_number = change.device_number;
                 let device = change.device;
-                let ages = change.ages;
                 let answer = change.answer;
-                next.areas[area_number] = area;
-                next.devices[device_number] = device;
-                next.ages = ages;
+                areas[area_number] = area;
+                devices[device_number] = device;
+                ages = change.ages;
                 end = print_answer(out, end, answer);
                 continue;
             }
             Line::Info(area) => {
-                let areas = next.areas;
-                let devices = next.devices;
-                let asked = info_of(next.plan, areas, devices, area as usize);
+                let asked = info_of(plan, areas, devices, area as usize);
                 end = print_info(out, end, asked);
                 continue;
             }
@@ -107,22 +116,23 @@ pub fn play_lines(
                 fourth,
             } => {
                 let answers = [first, second, third, fourth];
-                let areas = next.areas;
-                let devices = next.devices;
-                let ages = next.ages;
-                let change = round_change(next.plan, areas, devices, ages, answers, image, store);
-                let areas = change.areas;
-                let devices = change.devices;
+                let change = round_change(plan, areas, devices, ages, answers, image, store);
                 let answer = change.answer;
-                next.areas = areas;
-                next.devices = devices;
-                end = print_round(out, end, answer, next.plan, areas, devices);
+                areas = change.areas;
+                devices = change.devices;
+                end = print_round(out, end, answer, plan, areas, devices);
                 continue;
             }
         }
     }
+    let manager = Manager {
+        plan,
+        areas,
+        devices,
+        ages,
+    };
     Progress {
-        manager: next,
+        manager,
         used: input.len(),
         written: end,
     }

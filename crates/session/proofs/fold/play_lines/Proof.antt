@@ -5,6 +5,7 @@ use native.Mathlib.Omega.{arith}
 use borrow.Author.Tests.{not-true, not-false}
 use Rattle.lines.specs.Fields.{cutFrom}
 use Rattle.lines.specs.laws.FieldLaws.{fields-all, fields-past}
+use Rattle.manager.specs.Calls.{managerOf}
 use Rattle.requests.specs.Effects.{memoryOf}
 use Rattle.session.specs.Fold.{playedLines, playedInput}
 use Rattle.session.specs.laws.FoldLaws.{sessionOf, usedTo, lines-full, lines-none, lines-turn}
@@ -27,14 +28,14 @@ use Rattle.session.proofs.play.print_round.Reads as print-round-reads
 use Rattle.texts.proofs.question_line.Reads as question-line-reads
 
 abbrev Inv-loop : tie.InvT-loop
-Inv-loop input ends image₀ store₀ out₀ next₀ at₀ end₀ image store out next at end = (at ≤ length input + 1) × (end ≤ length out) × (length image ≡ length image₀) × (length store ≡ length store₀) × (length out ≡ length out₀) × (playedLines ends (length out₀) (cutFrom 10 input at) (sessionOf next image store out end (usedTo at input)) ≡ playedInput ends (length out₀) input (sessionOf next₀ image₀ store₀ out₀ 0 0))
+Inv-loop input ends image₀ store₀ out₀ plan areas₀ devices₀ ages₀ at₀ end₀ image store out areas devices ages at end = (at ≤ length input + 1) × (end ≤ length out) × (length image ≡ length image₀) × (length store ≡ length store₀) × (length out ≡ length out₀) × (playedLines ends (length out₀) (cutFrom 10 input at) (sessionOf (managerOf plan areas devices ages) image store out end (usedTo at input)) ≡ playedInput ends (length out₀) input (sessionOf (managerOf plan areas₀ devices₀ ages₀) image₀ store₀ out₀ 0 0))
 
 abbrev μ-loop : tie.MeasureT-loop
-μ-loop input ends image₀ store₀ out₀ next₀ at₀ end₀ image store out next at end = length input + 1 - at
+μ-loop input ends image₀ store₀ out₀ plan areas₀ devices₀ ages₀ at₀ end₀ image store out areas devices ages at end = length input + 1 - at
 
 loop-holds : tie.Need-loop-holds Inv-loop μ-loop
 loop-holds c =
-    let a = c .before .before .before .before .args in
+    let a = c .before .before .before .before .before .before .before .before .args in
     let zero : usedTo 0 (a .input .now) ≡ 0 = omega arith in
     (omega arith, omega arith, refl, refl, refl, ap (λ u. playedLines (a .ends) (length (a .out .now)) (cutFrom 10 (a .input .now) 0) (sessionOf (a .manager) (a .image .now) (a .store .now) (a .out .now) 0 u)) zero ∙ ap (λ F. playedLines (a .ends) (length (a .out .now)) F (sessionOf (a .manager) (a .image .now) (a .store .now) (a .out .now) 0 0)) (fields-all 10 (a .input .now)))
 
@@ -53,10 +54,11 @@ same-length-3 c = search needs
 returns : tie.Need-returns Inv-loop μ-loop
 returns c =
     let l = c .before .before .loop in
-    let a = c .before .before .before .before .before .before .before .args in
+    let a = c .before .before .before .before .before .before .before .before .before .before .before .args in
+    let m = managerOf (a .manager .plan) (l .areas) (l .devices) (l .ages) in
     let u : l .at ≡ usedTo (l .at) (a .input .now) = omega arith in (
-      ap (sessionOf (l .next) (l .image) (l .store) (l .out) (l .end)) u
-          ∙ lines-full (a .ends) (length (a .out .now)) (l .next) (l .image) (l .store) (l .out) (l .end) (usedTo (l .at) (a .input .now)) (omega arith) (omega arith) (cutFrom 10 (a .input .now) (l .at))
+      ap (sessionOf m (l .image) (l .store) (l .out) (l .end)) u
+          ∙ lines-full (a .ends) (length (a .out .now)) m (l .image) (l .store) (l .out) (l .end) (usedTo (l .at) (a .input .now)) (omega arith) (omega arith) (cutFrom 10 (a .input .now) (l .at))
           ∙ l .inv .5,
       (omega arith, omega arith),
     )
@@ -79,12 +81,13 @@ same-length-6 c = search needs
 returns-2 : tie.Need-returns-2 Inv-loop μ-loop
 returns-2 c =
     let l = c .before .before .before .before .before .loop in
-    let a = c .before .before .before .before .before .before .before .before .before .before .args in
+    let a = c .before .before .before .before .before .before .before .before .before .before .before .before .before .before .args in
+    let m = managerOf (a .manager .plan) (l .areas) (l .devices) (l .ages) in
     let e = c .before .before .part-end in
     let u : l .at ≡ usedTo (l .at) (a .input .now) = omega arith in
     let no = sym (c .before .is-line .ensures) ∙ not-true _ (c .if2 .taken) in (
-      ap (sessionOf (l .next) (l .image) (l .store) (l .out) (l .end)) u
-          ∙ lines-none (a .ends) (length (a .out .now)) (l .next) (l .image) (l .store) (l .out) (l .end) (usedTo (l .at) (a .input .now)) (omega arith)
+      ap (sessionOf m (l .image) (l .store) (l .out) (l .end)) u
+          ∙ lines-none (a .ends) (length (a .out .now)) m (l .image) (l .store) (l .out) (l .end) (usedTo (l .at) (a .input .now)) (omega arith)
           (omega arith) (a .input .now) (l .at) (e .result) (e .ensures .0) (e .ensures .1) (e .ensures .2) no
           ∙ l .inv .5,
       (omega arith, omega arith),
@@ -117,16 +120,17 @@ loop-less c = omega (arith, c .before .before .before .before .before .before .b
 loop-again : tie.Need-loop-again Inv-loop μ-loop
 loop-again c =
     let l = c .before .before .before .before .before .before .before .before .before .before .before .before .before .loop in
-    let a = c .before .before .before .before .before .before .before .before .before .before .before .before .before .before .before .before .before .before .args in
+    let a = c .before .before .before .before .before .before .before .before .before .before .before .before .before .before .before .before .before .before .before .before .before .before .args in
+    let m = managerOf (a .manager .plan) (l .areas) (l .devices) (l .ages) in
     let e = c .before .before .before .before .before .before .before .before .before .before .part-end in
     let more = c .before .before .before .before .before .before .before .before .before .before .before .before .loop-test .taken in
     let room = c .before .before .before .before .before .before .before .before .before .before .before .if1 .left in
     let u : usedTo (l .at) (a .input .now) ≡ l .at = omega (arith, more) in
     let yes = sym (c .before .before .before .before .before .before .before .before .before .is-line .ensures) ∙ not-false _ (c .before .before .before .before .before .before .before .before .if2 .left) in
     let p = c .before .before .question-line .ensures in
-    let d = unreadable-done _ (l .next) (memoryOf (l .image) (l .store)) (c .before .before .before .before .enum-told .given .1) (p .0) (omega arith) in
-    let t = lines-turn (a .ends) (length (a .out .now)) (l .next) (l .image) (l .store) (l .out) (l .end) (usedTo (l .at) (a .input .now)) (l .inv .1)
-    (omega (arith, room, l .inv .4)) (a .input .now) (l .at) (e .result) (e .ensures .0) (e .ensures .1) (e .ensures .2) yes u _ (l .next) (l .image) (l .store)
+    let d = unreadable-done _ m (memoryOf (l .image) (l .store)) (c .before .before .before .before .enum-told .given .1) (p .0) (omega arith) in
+    let t = lines-turn (a .ends) (length (a .out .now)) m (l .image) (l .store) (l .out) (l .end) (usedTo (l .at) (a .input .now)) (l .inv .1)
+    (omega (arith, room, l .inv .4)) (a .input .now) (l .at) (e .result) (e .ensures .0) (e .ensures .1) (e .ensures .2) yes u _ m (l .image) (l .store)
     (c .before .before .before .before .before .before .line-of .ensures) d _ (l .inv .5) in
     (omega (arith, e .ensures .1), omega (arith, t .0, t .1, room), l .inv .2, l .inv .3, t .1 ∙ l .inv .4, t .2)
 
@@ -136,39 +140,40 @@ enum-known-line c = search needs
 make-requires : tie.Need-make-requires Inv-loop μ-loop
 make-requires c κs = search needs
 
-mul-area : tie.Need-mul-area Inv-loop μ-loop
-mul-area c = search needs
+mul-areas : tie.Need-mul-areas Inv-loop μ-loop
+mul-areas c = search needs
 
-element-set-from-area : tie.Need-element-set-from-area Inv-loop μ-loop
-element-set-from-area c = search needs
+array-set-from-areas : tie.Need-array-set-from-areas Inv-loop μ-loop
+array-set-from-areas c = search needs
 
-mul-device : tie.Need-mul-device Inv-loop μ-loop
-mul-device c = search needs
+mul-devices : tie.Need-mul-devices Inv-loop μ-loop
+mul-devices c = search needs
 
-element-set-from-device : tie.Need-element-set-from-device Inv-loop μ-loop
-element-set-from-device c = search needs
+array-set-from-devices : tie.Need-array-set-from-devices Inv-loop μ-loop
+array-set-from-devices c = search needs
 
 print-answer-requires : tie.Need-print-answer-requires Inv-loop μ-loop
-print-answer-requires c κs = omega (arith, c .before .before .before .before .before .before .before .before .before .before .before .before .before .before .before .before .before .if1 .left)
+print-answer-requires c κs = omega (arith, c .before .before .before .before .before .before .before .before .before .before .before .before .before .if1 .left)
 
 loop-less-2 : tie.Need-loop-less-2 Inv-loop μ-loop
-loop-less-2 c = omega (arith, c .before .before .before .before .before .before .before .before .before .before .before .before .before .before .before .before .before .before .before .before .before .loop-test .taken, c .before .before .before .before .before .before .before .before .before .before .before .before .before .before .before .before .before .before .before .part-end .ensures .0)
+loop-less-2 c = omega (arith, c .before .before .before .before .before .before .before .before .before .before .before .before .before .before .before .before .before .loop-test .taken, c .before .before .before .before .before .before .before .before .before .before .before .before .before .before .before .part-end .ensures .0)
 
 loop-again-2 : tie.Need-loop-again-2 Inv-loop μ-loop
 loop-again-2 c =
-    let l = c .before .before .before .before .before .before .before .before .before .before .before .before .before .before .before .before .before .before .before .before .before .before .loop in
+    let l = c .before .before .before .before .before .before .before .before .before .before .before .before .before .before .before .before .before .before .loop in
     let a = c .before .before .before .before .before .before .before .before .before .before .before .before .before .before .before .before .before .before .before .before .before .before .before .before .before .before .before .args in
-    let e = c .before .before .before .before .before .before .before .before .before .before .before .before .before .before .before .before .before .before .before .part-end in
-    let more = c .before .before .before .before .before .before .before .before .before .before .before .before .before .before .before .before .before .before .before .before .before .loop-test .taken in
-    let room = c .before .before .before .before .before .before .before .before .before .before .before .before .before .before .before .before .before .before .before .before .if1 .left in
+    let m = managerOf (a .manager .plan) (l .areas) (l .devices) (l .ages) in
+    let e = c .before .before .before .before .before .before .before .before .before .before .before .before .before .before .before .part-end in
+    let more = c .before .before .before .before .before .before .before .before .before .before .before .before .before .before .before .before .before .loop-test .taken in
+    let room = c .before .before .before .before .before .before .before .before .before .before .before .before .before .before .before .before .if1 .left in
     let u : usedTo (l .at) (a .input .now) ≡ l .at = omega (arith, more) in
-    let yes = sym (c .before .before .before .before .before .before .before .before .before .before .before .before .before .before .before .before .before .before .is-line .ensures) ∙ not-false _ (c .before .before .before .before .before .before .before .before .before .before .before .before .before .before .before .before .before .if2 .left) in
+    let yes = sym (c .before .before .before .before .before .before .before .before .before .before .before .before .before .before .is-line .ensures) ∙ not-false _ (c .before .before .before .before .before .before .before .before .before .before .before .before .before .if2 .left) in
     let r = c .before .before .before .before .before .before .before .make .ensures in
     let p = c .before .before .print-answer .ensures in
-    let d = call-done _ (l .next) (memoryOf (l .image) (l .store)) _ _ (c .before .before .before .before .before .before .before .before .before .before .before .before .before .line .given .1) _ (r .0) (r .1 .0) (p .0) (p .1) in
-    let t = lines-turn (a .ends) (length (a .out .now)) (l .next) (l .image) (l .store) (l .out) (l .end) (usedTo (l .at) (a .input .now)) (l .inv .1)
+    let d = call-done _ m (memoryOf (l .image) (l .store)) _ _ (c .before .before .before .before .before .before .before .before .before .line .given .1) _ (r .0) (r .1 .0) (p .0) (p .1) in
+    let t = lines-turn (a .ends) (length (a .out .now)) m (l .image) (l .store) (l .out) (l .end) (usedTo (l .at) (a .input .now)) (l .inv .1)
     (omega (arith, room, l .inv .4)) (a .input .now) (l .at) (e .result) (e .ensures .0) (e .ensures .1) (e .ensures .2) yes u _ _ (l .image) (l .store)
-    (c .before .before .before .before .before .before .before .before .before .before .before .before .before .before .before .line-of .ensures) d _ (l .inv .5) in
+    (c .before .before .before .before .before .before .before .before .before .before .before .line-of .ensures) d _ (l .inv .5) in
     (omega (arith, e .ensures .1), omega (arith, t .0, t .1, room), l .inv .2, l .inv .3, t .1 ∙ l .inv .4, t .2)
 
 enum-known-line-2 : tie.Need-enum-known-line-2 Inv-loop μ-loop
@@ -181,26 +186,27 @@ info-of-requires : tie.Need-info-of-requires Inv-loop μ-loop
 info-of-requires c κs = search needs
 
 print-info-requires : tie.Need-print-info-requires Inv-loop μ-loop
-print-info-requires c κs = omega (arith, c .before .before .before .before .before .before .before .before .before .before .before .before .before .if1 .left)
+print-info-requires c κs = omega (arith, c .before .before .before .before .before .before .before .before .before .before .if1 .left)
 
 loop-less-3 : tie.Need-loop-less-3 Inv-loop μ-loop
-loop-less-3 c = omega (arith, c .before .before .before .before .before .before .before .before .before .before .before .before .before .before .before .before .before .loop-test .taken, c .before .before .before .before .before .before .before .before .before .before .before .before .before .before .before .part-end .ensures .0)
+loop-less-3 c = omega (arith, c .before .before .before .before .before .before .before .before .before .before .before .before .before .before .loop-test .taken, c .before .before .before .before .before .before .before .before .before .before .before .before .part-end .ensures .0)
 
 loop-again-3 : tie.Need-loop-again-3 Inv-loop μ-loop
 loop-again-3 c =
-    let l = c .before .before .before .before .before .before .before .before .before .before .before .before .before .before .before .before .before .before .loop in
-    let a = c .before .before .before .before .before .before .before .before .before .before .before .before .before .before .before .before .before .before .before .before .before .before .before .args in
-    let e = c .before .before .before .before .before .before .before .before .before .before .before .before .before .before .before .part-end in
-    let more = c .before .before .before .before .before .before .before .before .before .before .before .before .before .before .before .before .before .loop-test .taken in
-    let room = c .before .before .before .before .before .before .before .before .before .before .before .before .before .before .before .before .if1 .left in
+    let l = c .before .before .before .before .before .before .before .before .before .before .before .before .before .before .before .loop in
+    let a = c .before .before .before .before .before .before .before .before .before .before .before .before .before .before .before .before .before .before .before .before .before .before .before .before .args in
+    let m = managerOf (a .manager .plan) (l .areas) (l .devices) (l .ages) in
+    let e = c .before .before .before .before .before .before .before .before .before .before .before .before .part-end in
+    let more = c .before .before .before .before .before .before .before .before .before .before .before .before .before .before .loop-test .taken in
+    let room = c .before .before .before .before .before .before .before .before .before .before .before .before .before .if1 .left in
     let u : usedTo (l .at) (a .input .now) ≡ l .at = omega (arith, more) in
-    let yes = sym (c .before .before .before .before .before .before .before .before .before .before .before .before .before .before .is-line .ensures) ∙ not-false _ (c .before .before .before .before .before .before .before .before .before .before .before .before .before .if2 .left) in
+    let yes = sym (c .before .before .before .before .before .before .before .before .before .before .before .is-line .ensures) ∙ not-false _ (c .before .before .before .before .before .before .before .before .before .before .if2 .left) in
     let r = c .before .before .before .before .info-of .ensures in
     let p = c .before .before .print-info .ensures in
-    let d = info-done _ (l .next) (memoryOf (l .image) (l .store)) _ (c .before .before .before .before .before .before .before .before .before .line2 .given .1) _ _ (r .0 (l .next .ages)) (r .1 (l .next .ages)) (p .0) (p .1) in
-    let t = lines-turn (a .ends) (length (a .out .now)) (l .next) (l .image) (l .store) (l .out) (l .end) (usedTo (l .at) (a .input .now)) (l .inv .1)
-    (omega (arith, room, l .inv .4)) (a .input .now) (l .at) (e .result) (e .ensures .0) (e .ensures .1) (e .ensures .2) yes u _ (l .next) (l .image) (l .store)
-    (c .before .before .before .before .before .before .before .before .before .before .before .line-of .ensures) d _ (l .inv .5) in
+    let d = info-done _ m (memoryOf (l .image) (l .store)) _ (c .before .before .before .before .before .before .line2 .given .1) _ _ (r .0 (l .ages)) (r .1 (l .ages)) (p .0) (p .1) in
+    let t = lines-turn (a .ends) (length (a .out .now)) m (l .image) (l .store) (l .out) (l .end) (usedTo (l .at) (a .input .now)) (l .inv .1)
+    (omega (arith, room, l .inv .4)) (a .input .now) (l .at) (e .result) (e .ensures .0) (e .ensures .1) (e .ensures .2) yes u _ m (l .image) (l .store)
+    (c .before .before .before .before .before .before .before .before .line-of .ensures) d _ (l .inv .5) in
     (omega (arith, e .ensures .1), omega (arith, t .0, t .1, room), l .inv .2, l .inv .3, t .1 ∙ l .inv .4, t .2)
 
 enum-known-line-3 : tie.Need-enum-known-line-3 Inv-loop μ-loop
@@ -211,29 +217,31 @@ round-change-requires c κs = search needs
 
 print-round-requires : tie.Need-print-round-requires Inv-loop μ-loop
 print-round-requires c κs =
-    let l = c .before .before .before .before .before .before .before .before .before .before .before .before .before .before .before .before .before .before .before .before .before .before .before .before .before .loop in
-    let r = c .before .before .before .before .before .before .before .before .round-change .ensures in
-    (omega (arith, c .before .before .before .before .before .before .before .before .before .before .before .before .before .before .before .before .before .before .before .before .before .before .before .if1 .left), λ z. round-shows (l .next) _ (memoryOf (l .image) (l .store)) (sym (r .0) ∙ z) _ (r .1 .0))
+    let l = c .before .before .before .before .before .before .before .before .before .before .before .before .before .before .before .before .before .before .before .before .loop in
+    let m = managerOf (c .before .before .before .before .before .before .before .before .before .before .before .before .before .before .before .before .before .before .before .before .before .before .before .before .before .before .before .before .before .args .manager .plan) (l .areas) (l .devices) (l .ages) in
+    let r = c .before .before .before .before .before .before .before .round-change .ensures in
+    (omega (arith, c .before .before .before .before .before .before .before .before .before .before .before .before .before .before .before .before .before .before .if1 .left), λ z. round-shows m _ (memoryOf (l .image) (l .store)) (sym (r .0) ∙ z) _ (r .1 .0))
 
 loop-less-4 : tie.Need-loop-less-4 Inv-loop μ-loop
-loop-less-4 c = omega (arith, c .before .before .before .before .before .before .before .before .before .before .before .before .before .before .before .before .before .before .before .before .before .before .before .before .before .before .before .loop-test .taken, c .before .before .before .before .before .before .before .before .before .before .before .before .before .before .before .before .before .before .before .before .before .before .before .before .before .part-end .ensures .0)
+loop-less-4 c = omega (arith, c .before .before .before .before .before .before .before .before .before .before .before .before .before .before .before .before .before .before .before .before .before .before .loop-test .taken, c .before .before .before .before .before .before .before .before .before .before .before .before .before .before .before .before .before .before .before .before .part-end .ensures .0)
 
 loop-again-4 : tie.Need-loop-again-4 Inv-loop μ-loop
 loop-again-4 c =
-    let l = c .before .before .before .before .before .before .before .before .before .before .before .before .before .before .before .before .before .before .before .before .before .before .before .before .before .before .before .before .loop in
-    let a = c .before .before .before .before .before .before .before .before .before .before .before .before .before .before .before .before .before .before .before .before .before .before .before .before .before .before .before .before .before .before .before .before .before .args in
-    let e = c .before .before .before .before .before .before .before .before .before .before .before .before .before .before .before .before .before .before .before .before .before .before .before .before .before .part-end in
-    let more = c .before .before .before .before .before .before .before .before .before .before .before .before .before .before .before .before .before .before .before .before .before .before .before .before .before .before .before .loop-test .taken in
-    let room = c .before .before .before .before .before .before .before .before .before .before .before .before .before .before .before .before .before .before .before .before .before .before .before .before .before .before .if1 .left in
+    let l = c .before .before .before .before .before .before .before .before .before .before .before .before .before .before .before .before .before .before .before .before .before .before .before .loop in
+    let a = c .before .before .before .before .before .before .before .before .before .before .before .before .before .before .before .before .before .before .before .before .before .before .before .before .before .before .before .before .before .before .before .before .args in
+    let m = managerOf (a .manager .plan) (l .areas) (l .devices) (l .ages) in
+    let e = c .before .before .before .before .before .before .before .before .before .before .before .before .before .before .before .before .before .before .before .before .part-end in
+    let more = c .before .before .before .before .before .before .before .before .before .before .before .before .before .before .before .before .before .before .before .before .before .before .loop-test .taken in
+    let room = c .before .before .before .before .before .before .before .before .before .before .before .before .before .before .before .before .before .before .before .before .before .if1 .left in
     let u : usedTo (l .at) (a .input .now) ≡ l .at = omega (arith, more) in
-    let yes = sym (c .before .before .before .before .before .before .before .before .before .before .before .before .before .before .before .before .before .before .before .before .before .before .before .before .is-line .ensures) ∙ not-false _ (c .before .before .before .before .before .before .before .before .before .before .before .before .before .before .before .before .before .before .before .before .before .before .before .if2 .left) in
-    let r = c .before .before .before .before .before .before .before .before .before .before .before .round-change .ensures in
+    let yes = sym (c .before .before .before .before .before .before .before .before .before .before .before .before .before .before .before .before .before .before .before .is-line .ensures) ∙ not-false _ (c .before .before .before .before .before .before .before .before .before .before .before .before .before .before .before .before .before .before .if2 .left) in
+    let r = c .before .before .before .before .before .before .before .before .before .before .round-change .ensures in
     let p = c .before .before .print-round .ensures in
-    let d = round-done _ (l .next) (memoryOf (l .image) (l .store)) _ _ _ _ _ (memoryOf _ _) (c .before .before .before .before .before .before .before .before .before .before .before .before .before .before .before .before .before .before .before .line3 .given .1) _ (r .0) (r .1 .0) (r .1 .1 .0) (r .1 .1 .1) (p .0) (p .1) in
-    let t = lines-turn (a .ends) (length (a .out .now)) (l .next) (l .image) (l .store) (l .out) (l .end) (usedTo (l .at) (a .input .now)) (l .inv .1)
+    let d = round-done _ m (memoryOf (l .image) (l .store)) _ _ _ _ _ (memoryOf _ _) (c .before .before .before .before .before .before .before .before .before .before .before .before .before .before .line3 .given .1) _ (r .0) (r .1 .0) (r .1 .1 .0) (r .1 .1 .1) (p .0) (p .1) in
+    let t = lines-turn (a .ends) (length (a .out .now)) m (l .image) (l .store) (l .out) (l .end) (usedTo (l .at) (a .input .now)) (l .inv .1)
     (omega (arith, room, l .inv .4)) (a .input .now) (l .at) (e .result) (e .ensures .0) (e .ensures .1) (e .ensures .2) yes u _ _ _ _
-    (c .before .before .before .before .before .before .before .before .before .before .before .before .before .before .before .before .before .before .before .before .before .line-of .ensures) d _ (l .inv .5) in
-    (omega (arith, e .ensures .1), omega (arith, t .0, t .1, room), omega (arith, c .before .before .before .before .before .before .before .before .before .before .image .given), omega (arith, c .before .before .before .before .before .before .before .before .store .given), t .1 ∙ l .inv .4, t .2)
+    (c .before .before .before .before .before .before .before .before .before .before .before .before .before .before .before .before .line-of .ensures) d _ (l .inv .5) in
+    (omega (arith, e .ensures .1), omega (arith, t .0, t .1, room), omega (arith, c .before .before .before .before .before .before .before .before .before .image .given), omega (arith, c .before .before .before .before .before .before .before .store .given), t .1 ∙ l .inv .4, t .2)
 
 same-length-7 : tie.Need-same-length-7 Inv-loop μ-loop
 same-length-7 c = search needs
@@ -248,10 +256,11 @@ returns-3 : tie.Need-returns-3 Inv-loop μ-loop
 unfolding playedLines
 returns-3 c =
     let l = c .before .loop in
-    let a = c .before .before .before .before .before .before .args in
+    let a = c .before .before .before .before .before .before .before .before .before .before .args in
+    let m = managerOf (a .manager .plan) (l .areas) (l .devices) (l .ages) in
     let u : length (a .input .now) ≡ usedTo (l .at) (a .input .now) = omega arith in (
-      ap (sessionOf (l .next) (l .image) (l .store) (l .out) (l .end)) u
-          ∙ ap (λ F. playedLines (a .ends) (length (a .out .now)) F (sessionOf (l .next) (l .image) (l .store) (l .out) (l .end) (usedTo (l .at) (a .input .now)))) (sym (fields-past 10 (a .input .now) (l .at) (omega arith)))
+      ap (sessionOf m (l .image) (l .store) (l .out) (l .end)) u
+          ∙ ap (λ F. playedLines (a .ends) (length (a .out .now)) F (sessionOf m (l .image) (l .store) (l .out) (l .end) (usedTo (l .at) (a .input .now)))) (sym (fields-past 10 (a .input .now) (l .at) (omega arith)))
           ∙ l .inv .5,
       (omega arith, omega arith),
     )
@@ -285,10 +294,10 @@ play-lines-spec =
     loop-again
     enum-known-line
     make-requires
-    mul-area
-    element-set-from-area
-    mul-device
-    element-set-from-device
+    mul-areas
+    array-set-from-areas
+    mul-devices
+    array-set-from-devices
     print-answer-requires
     loop-less-2
     loop-again-2
