@@ -1,5 +1,1 @@
-pub mod MarkedCases
-pub mod PrintedSession
-pub mod ClosedRuns
-pub mod QueryRuns
-pub mod Reached
+pub mod InfoRuns

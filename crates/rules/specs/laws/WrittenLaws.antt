@@ -1,4 +1,4 @@
--- What a write leaves on a chip that only clears bits.
+-- What a write leaves: on a chip that stores, and on one that only clears bits.
 use Prim.Native.Nat.{ℕ, zero, suc, _+_, _*_, _/_, _%_, _^_, _≤_, min}
 use mathlib.Core.Bool.{Bool, true, false}
 use mathlib.Core.Path.{_≡_, refl, sym, ap, ap₂, _∙_}
@@ -15,6 +15,10 @@ digits-and : (p q : ℕ) → p ≤ 1 → q ≤ 1 → bitAnd p q ≡ min p q
 digits-and p q h k =
     let e : p / 2 ≡ 0 = omega arith in
     and-step p q ∙ rw e (omega arith)
+
+-- a chip that stores holds the window's byte, whatever it held
+pub written-stored : (old b : ℕ) → writtenByte false old b ≡ b
+written-stored old b = refl
 
 -- "On NOR flash a write can turn a bit from 1 to 0 and never back.": a bit is 1 just where it was 1 and the window's is 1
 pub written-bit : (old b k : ℕ) → bit k (writtenByte true old b) ≡ min (bit k old) (bit k b)

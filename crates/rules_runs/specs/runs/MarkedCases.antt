@@ -4,7 +4,6 @@ use mathlib.Core.Path.{_≡_, refl}
 use mathlib.Core.List.{List, [], _∷_}
 use Rattle.memory.specs.declared.JobType.{JobType}
 use Rattle.memory.specs.declared.JobType.the-variants.{Write, Read, Compare, Erase, BlankCheck, Lock}
-use Rattle.memory.specs.declared.Task.{Task}
 use Rattle.plan.specs.runs.Examples.{planT}
 use Rattle.plan.specs.declared.records.Plan.{Plan}
 use Rattle.segment.specs.declared.Segment.{Segment}
@@ -17,14 +16,12 @@ use Rattle.plan.specs.Records as Records
 use Rattle.plan.specs.Questions as Questions
 use Rattle.segment.specs.Mapping as Mapping
 use Rattle.segment.specs.Segments as Segments
 use Rattle.rules.specs.Admission as Admission
 use Rattle.rules.specs.History as History
+use Rattle.rules.specs.runs.InfoRuns.{task}
 
 abbrev pub t : Plan
 t = Records.planOf planT
-
-abbrev pub task : JobType → ℕ → ℕ → Task
-task k address n = record { kind = k; address = record { 0 = address }; length = n }
 
 -- `bytes n p`: n bytes at physical address p
 pub data Range : Type 0 where

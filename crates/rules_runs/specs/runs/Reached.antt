@@ -22,15 +22,15 @@ use Rattle.plan.specs.Questions as Questions
 use Rattle.segment.specs.Mapping as Mapping
 use Rattle.segment.specs.Segments as Segments
 use Rattle.segment.specs.declared.Segment.{Segment}
 use Rattle.rules.specs.Layout as Layout
 use Rattle.rules.specs.Ranks as Ranks
 use Rattle.rules.specs.Machine as Machine
 use Rattle.rules.specs.Admission as Admission
 use Rattle.rules.specs.statements.Statements.{Differ, ReachedOn, BoundsReached, segmentsOf, ownMost, belowMost}
 use Rattle.rules.specs.Round as Round
 use Rattle.rules.specs.History as History
 use Rattle.rules.specs.History.{Call}
-use Rattle.rules.specs.runs.QueryRuns.{round, job}
+use Rattle.rules.specs.runs.InfoRuns.{round, job}
 
 -- Two devices with this second byte of their marks: device 0 of limit 2, device 1 of limit 3. Four areas, ranked by their numbers, each with a sector on device 1
 -- and, but for area 3, one on device 0 behind it; area 2 has an erase retry on device 1, and two sectors on device 0.

@@ -1,0 +1,5 @@
+pub mod MarkedCases
+pub mod PrintedSession
+pub mod ClosedRuns
+pub mod QueryRuns
+pub mod Reached
