@@ -9,7 +9,7 @@ sh tools/need.sh rt
 . tools/rt-lines.sh
 
 # What a crate takes on two cores, on an average of all.
-seconds_each=15
+seconds_each=12
 
 kit=$(rt version)
 
