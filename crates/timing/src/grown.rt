@@ -1,6 +1,5 @@
 // The loops on a manager grown by 6 KB, as later requests will grow it: what a call costs by value grows with it, what it costs an owner in place does not.
 ghost use mathlib.Core.Path.{_≡_};
-ghost use Prim.Native.Nat.{_≤_};
 ghost use lib.ListN.{replicate};
 ghost use Rattle.manager.specs.Calls.{jobNumberOf, afterJob, cancelNumberOf, afterCancel, roundNumberOf, afterRound, memoryAfterRound};
 ghost use Rattle.manager.specs.Load.{loadedManager};

@@ -21,22 +21,19 @@ use Rattle.memory.specs.declared.Admission.the-variants.{Refused}
 use Rattle.memory.specs.declared.Refusal.{Refusal}
 use Rattle.memory.specs.declared.LogicalAddress.{LogicalAddress}
 use Rattle.memory.specs.declared.Task.{Task}
-use Rattle.machine.specs.laws.DeviceLaws.{begun-first, lock-known}
+use Rattle.machine.specs.laws.DeviceLaws.{lock-known}
 use Rattle.questions.specs.laws.QuestionLaws.{devicesAlone}
 use Rattle.machine.specs.Sound.{jobIn, deviceIn, isSound}
 use Rattle.machine.specs.laws.SoundCases.{sound-few}
 use Rattle.close.specs.Close.{waitsIn, areasAfter, devicesAfter, halvesOf}
-use Rattle.rules.specs.Admission.{isKnown, rangeDevice, jobQuestions, releaseQuestions, cancelQuestions, infoQuestions, memoryInfoQuestions, imageFits, storeReaches, roundNumber}
+use Rattle.rules.specs.Admission.{isKnown, rangeDevice, releaseQuestions, infoQuestions, memoryInfoQuestions, imageFits, storeReaches, roundNumber}
 use Rattle.rules.specs.Layout.{layoutOf}
-use Rattle.rules.specs.Machine.{doing, begunWith, begin, cancel, release}
-use Rattle.segment.specs.Segments.{segmentAt}
+use Rattle.rules.specs.Machine.{doing, cancel, release}
 use Rattle.rules.specs.Queries.{jobInfoOf, noMemoryInfo, memoryInfoOf}
-use Rattle.state.specs.Fresh.{noWaits}
 use Rattle.state.specs.declared.DeviceState.the-variants.{Free}
 use Rattle.state.specs.declared.Job.{Job}
 use Rattle.state.specs.declared.JobInfo.{JobInfo}
-use Rattle.state.specs.declared.Waits.{Waits}
-use Rattle.manager.specs.Calls.{coreOf, rankedOf, soundNumber, withArea, withAccepted, withDevice, jobNumberOf, afterJob, releaseNumberOf, afterRelease, cancelNumberOf, afterCancel, infoNumberOf, statusOf, resultOf, processedOf, noJobInfo, infoOf, jobTypeOf, memoryInfoNumberOf, memoryOfArea, roundNumberOf, afterRound, memoryAfterRound}
+use Rattle.manager.specs.Calls.{coreOf, rankedOf, soundNumber, withArea, withDevice, jobNumberOf, afterJob, releaseNumberOf, afterRelease, cancelNumberOf, afterCancel, infoNumberOf, statusOf, resultOf, processedOf, noJobInfo, infoOf, jobTypeOf, memoryInfoNumberOf, memoryOfArea, roundNumberOf, afterRound, memoryAfterRound}
 use Rattle.manager.specs.declared.Manager.{Manager}
 
 -- a call that is refused, with that number

@@ -1,22 +1,21 @@
 -- The questions of the calls by the cases that the code takes apart.
 use Prim.Native.Nat.{ℕ, _≤_, _<_}
-use mathlib.Core.Bool.{Bool, true, false}
-use mathlib.Core.List.{List, _∷_}
+use mathlib.Core.Bool.{true, false}
+use mathlib.Core.List.{List}
 use mathlib.Core.Path.{_≡_}
 use borrow.Author.Tests.{le-leb, lt-leb}
-use lib.Dec.{ltb, leb, eqb}
+use lib.Dec.{leb, eqb}
 use lib.ListN.{length}
 use Rattle.arith.specs.Cases.{pick}
 use Rattle.arith.specs.FirstNo.{firstNo}
-use Rattle.memory.specs.declared.Task.{Task}
 use Rattle.plan.specs.Questions.{lengthSum}
 use Rattle.plan.specs.declared.records.Plan.{Plan}
-use Rattle.rules.specs.Admission.{rangeQuestions, jobQuestions, imageFits, storeReaches, roundNumber}
-use Rattle.rules.specs.Machine.{Core, isPending}
-use Rattle.state.specs.Fresh.{noJob, freeDevice}
+use Rattle.rules.specs.Admission.{imageFits, storeReaches, roundNumber}
+use Rattle.rules.specs.Machine.{Core}
+use Rattle.state.specs.Fresh.{noJob}
 use Rattle.state.specs.declared.Area.{Area}
 use Rattle.state.specs.declared.Device.{Device}
-use Rattle.machine.specs.Sound.{jobIn, deviceIn, isSound}
+use Rattle.machine.specs.Sound.{deviceIn, isSound}
 
 -- the devices alone: a release is asked nothing of the jobs
 abbrev pub devicesAlone : List Device → Core

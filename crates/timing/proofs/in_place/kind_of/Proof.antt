@@ -1,7 +1,6 @@
 use mathlib.Core.Path.{refl}
 use borrow.Author.Tests.{eq-eqb, ne-eqb}
 use Rattle.timing.specs.Repeated.{kindOf}
-use borrow.Author.Needs.{needs}
 use Rattle.timing.proofs.in_place.kind_of.Statement.{statement}
 use Rattle.timing.proofs.in_place.kind_of.Tie as tie
 use Rattle.timing.proofs.in_place.kind_of.Reads as reads
