@@ -4,7 +4,7 @@ ghost use Prim.Native.Nat.{_+_, _-_, _≤_, _<_, min};
 ghost use lib.ListN.{length};
 ghost use Rattle.plan.specs.Questions.{sizeOf};
 ghost use Rattle.segment.specs.Mapping.{find, located, mapped};
-ghost use Rattle.segment.specs.laws.Lookup.{met, outcomeOf};
+ghost use Rattle.segment.specs.laws.Lookup.{met, nextOf, outcomeOf};
 ghost use Rattle.segment.specs.Segments.{isLock, isErase, unitOf, retriesOf, burstOrUnit, segmentLength, segmentIn, noSegment, segmentAt};
 ghost use Rattle.segment.specs.laws.Found.{indexOf, Inside, segmentIf, segmentFrom};
 use memory::JobType;
@@ -72,6 +72,16 @@ impl Seek {
         }
     }
 
+    // The record to be met next, of `count`: once the byte is found, none.
+    fn next(self, behind: usize, count: usize) -> usize
+        ensures { λ r. ⌜ r ≡ nextOf self behind count ⌝ }
+    {
+        if self.found {
+            return count;
+        }
+        behind
+    }
+
     fn outcome(self) -> Found
         ensures { λ r. ⌜ r ≡ outcomeOf self ⌝ }
     {
@@ -86,8 +96,8 @@ impl Seek {
     }
 }
 
-// Document 01: "the lookup walks the sub-area records as a lent list in plan order." It goes on to the last record, so that
-// its loop has one way out: a walk over a lent list of structs is proved by hand.
+// Document 01: "the lookup walks the sub-area records as a lent list in plan order." Where the byte is found it goes on behind the last
+// record, so that its loop has one way out: a walk over a lent list of structs is proved by hand.
 fn lookup(sub_areas: &[SubAreaRecord], area: usize, offset: u64) -> Found
     ensures { λ r. ⌜ r ≡ find (length (now («sub_areas» .entry))) (now («sub_areas» .entry)) 0 area offset ⌝ }
 {
@@ -100,7 +110,7 @@ fn lookup(sub_areas: &[SubAreaRecord], area: usize, offset: u64) -> Found
     let mut i: usize = 0;
     while i < sub_areas.len() {
         seek = seek.meet(sub_areas[i], i, area);
-        i += 1;
+        i = seek.next(i + 1, sub_areas.len());
     }
     seek.outcome()
 }

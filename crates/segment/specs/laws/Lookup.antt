@@ -22,6 +22,10 @@ met k s i a =
     (pick (ltb (k .left) (sizeOf s)) (record { found = true; «sub_area» = i; left = k .left; at = s .start + k .left }) (away (k .left - sizeOf s)))
     k)
 
+-- the record to be met next, of n: j, or, once the byte is found, none
+unfoldable pub nextOf : Seek → ℕ → ℕ → ℕ
+nextOf k j n = pick (k .found) n j
+
 unfoldable pub outcomeOf : Seek → Found
 outcomeOf k = pick (k .found) (At (k .«sub_area») (k .left) (record { 0 = k .at })) Outside
 

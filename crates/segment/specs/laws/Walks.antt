@@ -1,7 +1,7 @@
 -- What proofs that walk a function's MIR by hand share (docs/PROOFS.md, "The lookup over a lent list"). None of it is about sub-areas.
 use mathlib.Core.Path.{_≡_, sym, _∙_, subst}
-use Prim.Native.Nat.{ℕ, zero, suc, _+_, _<_}
-use native.Mathlib.Nat.{add-zero, zero-add, lt-suc-self}
+use Prim.Native.Nat.{ℕ, zero, suc, _+_, _-_, _≤_, _<_}
+use native.Mathlib.Nat.{add-zero, zero-add}
 use native.Mathlib.Omega.{arith}
 use mathlib.Core.List.{List, [], _∷_}
 use lib.WfN.{Nat·lt-wfRel}
@@ -34,7 +34,7 @@ module _ {M : Type 1} {𝓤 : URA M} {H : Heap 𝓤} {A : Atoms 𝓤} {K : Type 
   pub value : K → (n : ℕ) {i : ℕ} {q : Share} {v : Val} → nth 𝓤 H A n Γ ≡ ‵ (fat q (spotOf 𝓤 H E i .0) (spotOf 𝓤 H E i .1) (spotOf 𝓤 H E i .2) v) → Opd K W Γ E (copy (place i [])) v
   value t n e = load t (here t) (look t n e)
 
--- a loop of n turns, where At i is what is owned at its head after i of them, and P i is known there
+-- a loop over the numbers below n, of which a turn passes one or more: At i is what is owned at its head where i is the next, and P i is known there
 module _ {M : Type 1} (𝓤 : URA M) (H : Heap 𝓤) (A : Atoms 𝓤) (W : Given 𝓤 H A) (𝓣 : Tables 𝓤 H) (En : Env 𝓤 H) (turn : Code) (Left : Out → SProp 𝓤) (n : ℕ) (P : ℕ → Type 0) (At : ℕ → List (Item 𝓤)) where
   abbrev Own : ℕ → SProp 𝓤
   Own i = ⋆ 𝓤 H A (At i)
@@ -42,7 +42,7 @@ module _ {M : Type 1} (𝓤 : URA M) (H : Heap 𝓤) (A : Atoms 𝓤) (W : Given
   abbrev Turn : SProp 𝓤 → SProp 𝓤
   Turn X = Wp 𝓤 H (𝓣 .C) (𝓣 .Λ) En turn (afterTurn 𝓤 H X Left)
 
-  -- where t turns are left
+  -- where t numbers are left
   abbrev Facts : ℕ → ℕ → Type 0
   Facts t i = (i + t ≡ n) × P i
 
@@ -55,13 +55,15 @@ module _ {M : Type 1} (𝓤 : URA M) (H : Heap 𝓤) (A : Atoms 𝓤) (W : Given
   into : (t i : ℕ) → Facts t i → ent 𝓤 (Own i) (Inv t)
   into t i f = via 𝓤 (guard 𝓤 (Facts t i) (Own i)) (guardI 𝓤 (Facts t i) (Own i) f) (exI 𝓤 (λ (j : ℕ). guard 𝓤 (Facts t j) (Own j)) i)
 
-  below : (t i : ℕ) → Facts t i → ent 𝓤 (Own i) (Below (suc t))
-  below t i f = via 𝓤 (Inv t) (into t i f) (via 𝓤 (guard 𝓤 (t < suc t) (Inv t)) (guardI 𝓤 (t < suc t) (Inv t) (lt-suc-self t)) (exI 𝓤 (λ (u : ℕ). guard 𝓤 (u < suc t) (Inv u)) t))
+  below : (t u i : ℕ) → u < t → Facts u i → ent 𝓤 (Own i) (Below t)
+  below t u i l f = via 𝓤 (Inv u) (into u i f) (via 𝓤 (guard 𝓤 (u < t) (Inv u)) (guardI 𝓤 (u < t) (Inv u) l) (exI 𝓤 (λ (w : ℕ). guard 𝓤 (w < t) (Inv w)) u))
 
-  module _ (more : (i : ℕ) (X : SProp 𝓤) → i < n → P i → (P (suc i) → ent 𝓤 (Own (suc i)) X) → ent 𝓤 (Own i) (Turn X)) (ends : (X : SProp 𝓤) → P n → ent 𝓤 (Own n) (Turn X)) where
+  module _ (more : (i : ℕ) (X : SProp 𝓤) → i < n → P i → ((j : ℕ) → i < j → j ≤ n → P j → ent 𝓤 (Own j) X) → ent 𝓤 (Own i) (Turn X)) (ends : (X : SProp 𝓤) → P n → ent 𝓤 (Own n) (Turn X)) where
     turn-at : (t i : ℕ) → Facts t i → ent 𝓤 (Own i) (Turn (Below t))
     turn-at zero i f = let e : n ≡ i = sym (f .0) ∙ add-zero i in subst (λ (j : ℕ). ent 𝓤 (Own j) (Turn (Below zero))) e (ends (Below zero) (subst P (sym e) (f .1)))
-    turn-at (suc t) i f = let h : i + suc t ≡ n = f .0 in more i (Below (suc t)) (omega (arith, h)) (f .1) (λ p. below t (suc i) (omega (arith, h), p))
+    turn-at (suc t) i f =
+        let h : i + suc t ≡ n = f .0 in
+        more i (Below (suc t)) (omega (arith, h)) (f .1) (λ j far few p. below (suc t) (n - j) j (omega (arith, h, far, few)) (omega (arith, few), p))
 
     turns : (t : ℕ) → ent 𝓤 (Inv t) (Turn (Below t))
     turns t = exE 𝓤 (λ (i : ℕ). guard 𝓤 (Facts t i) (Own i)) (λ i. guardE 𝓤 (Facts t i) (Own i) (λ f. turn-at t i f))
