@@ -4,8 +4,8 @@
 set -eu
 cd "$(dirname "$0")/.."
 sh tools/need.sh rt cargo
-# shellcheck source=tools/rt-lines.sh
-. tools/rt-lines.sh
+# shellcheck source=tools/beside.sh
+. tools/beside.sh
 
 part() { # NAME COMMAND...
     name=$1
@@ -22,25 +22,35 @@ part() { # NAME COMMAND...
 
 layout() { rt fmt --check && sh examples/recorded-plans.sh --check; }
 
-hold_verdict() { # LINE
-    case $1 in
-    [0-9]*' passed, '*' failed') printf '%s\n' "$1" >"$room/verdict" ;;
-    *) printf '%s\n' "$1" ;;
-    esac
+# rt ci's last line, the verdict, is held back until all else has passed too.
+proofs() {
+    mkfifo "$room/lines"
+    setsid rt ci >"$room/lines" 2>&1 &
+    beside=-$!
+    while IFS= read -r line; do
+        case $line in
+        [0-9]*' passed, '*' failed') printf '%s\n' "$line" >"$room/verdict" ;;
+        *) printf '%s\n' "$line" ;;
+        esac
+    done <"$room/lines"
+    status=0
+    wait "${beside#-}" || status=$?
+    beside=''
+    [ "$status" -eq 0 ] && [ -f "$room/verdict" ]
 }
 
-proofs() { rt_lines hold_verdict ci && [ -f "$room/verdict" ]; }
-
-# The libraries are made one after the other, so the model's own tests, which need none of them, run on the other core.
-libraries() {
+# The model's own tests need none of the proofs: they run beside them, where a core often has nothing to do.
+begin_own_tests() {
     cargo test --offline --release --quiet --manifest-path model/Cargo.toml >"$room/model" 2>&1 &
-    beside=$!
-    made=0 tested=0
-    sh tools/prove.sh --library interface timing || made=$?
-    wait "$beside" || tested=$?
-    beside=''
+    also_beside=$!
+}
+
+own_tests() {
+    tested=0
+    wait "$also_beside" || tested=$?
+    also_beside=''
     cat "$room/model"
-    [ "$made" -eq 0 ] && [ "$tested" -eq 0 ]
+    return "$tested"
 }
 
 comparisons() {
@@ -49,8 +59,10 @@ comparisons() {
 }
 
 part "layout and recorded plans" layout
+begin_own_tests
 part "proofs and edits" proofs
+part "the model's own tests, begun beside them" own_tests
 part "recorded runs" sh tools/recorded-runs.sh
-part "libraries, and the model's own tests beside" libraries
+part "libraries" sh tools/prove.sh --library interface timing
 part "the model compared with the libraries" comparisons
 cat "$room/verdict"

@@ -5,8 +5,8 @@
 set -eu
 cd "$(dirname "$0")/.."
 sh tools/need.sh rt
-# shellcheck source=tools/rt-lines.sh
-. tools/rt-lines.sh
+# shellcheck source=tools/beside.sh
+. tools/beside.sh
 
 # What a crate takes on two cores, on an average of all.
 seconds_each=12
@@ -62,18 +62,30 @@ tell() { # NAME SECONDS
     say "$1 ($2 s), $told of $count"
 }
 
-hear() { # LINE
-    printf '%s\n' "$1" >>"$log"
-    case $1 in
-    'rt: '*' proved ('*' s)')
-        heard=${1#rt: }
-        tell "${heard%% *}" "$(expr "$heard" : '.*(\([0-9]*\) s)')"
-        ;;
-    esac
+# Tells of each crate that rt has proved since it was started. What rt prints comes a batch at a time; the crate's own log says it at once.
+tell_proved() {
+    still=''
+    for one in $waiting; do
+        own=target/log/$one.out seconds=''
+        if [ "$own" -nt "$room/began" ]; then seconds=$(sed -n "s/^rt: $one proved (\([0-9]*\) s)$/\1/p" "$own"); fi
+        if [ -n "$seconds" ]; then tell "$one" "$seconds"; else still="$still $one"; fi
+    done
+    waiting=$still
 }
 
 run_rt() { # WORD...
-    if rt_lines hear "$@"; then return; fi
+    : >"$room/began"
+    setsid rt "$@" >"$log" 2>&1 &
+    beside=-$!
+    while kill -0 "${beside#-}" 2>/dev/null; do
+        sleep 1
+        tell_proved
+    done
+    status=0
+    wait "${beside#-}" || status=$?
+    beside=''
+    tell_proved
+    if [ "$status" -eq 0 ]; then return; fi
     grep -v -e ': proved$' -e ' note: ' -e '^library ' -e '^logic /' -e 'unchanged since it was last proved' "$log" >&2 || true
     mv "$log" target/prove.log
     say "rt $1 FAILED; target/prove.log has all that it said, target/log/NAME.out what was said of one crate"
@@ -109,6 +121,7 @@ for name in $libraries; do
     if rests_on_new "$name" || ! is_made "$name"; then count=$((count + 1)); fi
 done
 [ "$count" -gt 0 ] || exit 0
+waiting=$new
 say "crates to prove, once: $count, in about $(((count * seconds_each + 59) / 60)) min on two cores"
 if [ -n "$new" ]; then run_rt check "$@"; fi
 for name in $libraries; do make_library "$name"; done

@@ -1,0 +1,125 @@
+use Prim.Native.Nat.{_+_, _-_, _*_, _≤_}
+use mathlib.Core.Path.{_≡_, refl, ap, ap₂, _∙_}
+use native.Mathlib.Omega.{arith}
+use Rattle.manager.specs.Calls.{jobNumberOf, afterJob}
+use lib.ListN.{replicate}
+use Rattle.loops.specs.Grown.{managerIn}
+use Rattle.loops.specs.Repeated.{turn, repeated, total, repeated-more, total-more, nextPair, pairTotal}
+use borrow.Author.Needs.{needs}
+use Rattle.loops.proofs.grown.jobs_and_cancels.Statement.{statement}
+use Rattle.loops.proofs.grown.jobs_and_cancels.Tie as tie
+use Rattle.loops.proofs.grown.jobs_and_cancels.Reads as reads
+use Rattle.loops.proofs.grown.jobs_and_cancels.Lts as lts
+use Rattle.manager.proofs.Manager.load.Reads as load-reads
+use Rattle.memory.proofs.Admission.number.Reads as number-reads
+use Rattle.loops.proofs.grown.Grown.cancel.Reads as cancel-reads
+use Rattle.loops.proofs.grown.Grown.of.Reads as of-reads
+use Rattle.loops.proofs.grown.Grown.submit.Reads as submit-reads
+use Rattle.loops.proofs.grown.rest_of.Reads as rest-of-reads
+use Rattle.loops.proofs.in_place.task_of.Reads as task-of-reads
+
+abbrev Inv-loop : tie.InvT-loop
+Inv-loop plan kind length times grown₀ task sum₀ i₀ grown sum i = (i ≤ times) × (managerIn grown ≡ repeated (nextPair kind length) (managerIn grown₀) i) × (sum ≡ pairTotal kind length (managerIn grown₀) i) × (sum ≤ 510 * i) × (grown .more ≡ replicate 768 0)
+
+abbrev μ-loop : tie.MeasureT-loop
+μ-loop plan kind length times grown₀ task sum₀ i₀ grown sum i = times - i
+
+load-requires : tie.Need-load-requires Inv-loop μ-loop
+load-requires c κs = search needs
+
+of-requires : tie.Need-of-requires Inv-loop μ-loop
+of-requires c κs = search needs
+
+task-of-requires : tie.Need-task-of-requires Inv-loop μ-loop
+task-of-requires c κs = search needs
+
+loop-holds : tie.Need-loop-holds Inv-loop μ-loop
+unfolding repeated total
+loop-holds c = (omega arith, refl, refl, omega arith, ap (λ g. g .more) (c .before .of .ensures))
+
+cast-area : tie.Need-cast-area Inv-loop μ-loop
+cast-area c = search needs
+
+submit-requires : tie.Need-submit-requires Inv-loop μ-loop
+submit-requires c κs = search needs
+
+number-requires : tie.Need-number-requires Inv-loop μ-loop
+number-requires c κs = search needs
+
+cancel-requires : tie.Need-cancel-requires Inv-loop μ-loop
+cancel-requires c κs = search needs
+
+number-requires-2 : tie.Need-number-requires-2 Inv-loop μ-loop
+number-requires-2 c κs = search needs
+
+cast-sum : tie.Need-cast-sum Inv-loop μ-loop
+cast-sum c = search needs
+
+cast-sum-2 : tie.Need-cast-sum-2 Inv-loop μ-loop
+cast-sum-2 c = search needs
+
+add-sum : tie.Need-add-sum Inv-loop μ-loop
+add-sum c = search needs
+
+add-sum-2 : tie.Need-add-sum-2 Inv-loop μ-loop
+add-sum-2 c = omega (arith, c .before .before .before .before .before .before .loop .inv .3, c .before .before .before .before .before .loop-test .taken, c .before .before .before .before .before .before .before .before .before .before .before .fits .times, c .before .before .before .number .ok, c .number2 .ok)
+
+add-i : tie.Need-add-i Inv-loop μ-loop
+add-i c = omega (arith, c .before .before .before .before .before .before .loop-test .taken, c .before .before .before .before .before .before .before .before .before .before .before .before .fits .times)
+
+loop-less : tie.Need-loop-less Inv-loop μ-loop
+loop-less c = omega (arith, c .before .before .before .before .before .before .loop-test .taken)
+
+loop-again : tie.Need-loop-again Inv-loop μ-loop
+loop-again c =
+    let here = c .before .before .before .before .before .before .before .loop in
+    let inv = here .inv in
+    let task = c .before .before .before .before .before .before .before .before .task-of .ensures in
+    let begun = c .before .before .before .before .before .submit .ensures in
+    let ended = c .before .before .cancel .ensures in
+    let next = begun .1 .0 ∙ ap (λ t. afterJob (managerIn (here .grown)) (turn (here .i)) t) task in (
+      omega (arith, c .before .before .before .before .before .before .loop-test .taken),
+      rw (repeated-more, ← (inv .1), ← next) (ended .1 .0),
+      rw (total-more, ← (inv .1), ← (inv .2), ← next) (ap₂ (λ x y. here .sum + (x + y)) (c .before .before .before .before .number .ensures ∙ begun .0 ∙ ap (λ t. jobNumberOf (managerIn (here .grown)) (turn (here .i)) t) task) (c .before .number2 .ensures ∙ ended .0)),
+      omega (arith, inv .3, c .before .before .before .before .number .ok, c .before .number2 .ok),
+      ended .1 .1 ∙ begun .1 .1 ∙ inv .4,
+    )
+
+rest-of-requires : tie.Need-rest-of-requires Inv-loop μ-loop
+rest-of-requires c κs = c .before .before .loop .inv .4
+
+add-result : tie.Need-add-result Inv-loop μ-loop
+add-result c = search needs
+
+returns : tie.Need-returns Inv-loop μ-loop
+returns c =
+    let inv = c .before .before .before .loop .inv in
+    let loaded = ap managerIn (c .before .before .before .before .before .of .ensures) ∙ c .before .before .before .before .before .before .load .ensures .1 in
+    let none : c .before .before .before .loop .sum + c .rest-of .result ≡ c .before .before .before .loop .sum = omega (arith, c .rest-of .ensures) in
+    none ∙ inv .2 ∙ ap₂ (pairTotal _ _) loaded (omega arith)
+
+pub jobs-and-cancels-spec : {M : Type 1} → statement M
+jobs-and-cancels-spec =
+    tie.close
+    (tie.spec
+    Inv-loop
+    μ-loop
+    load-requires
+    of-requires
+    task-of-requires
+    loop-holds
+    cast-area
+    submit-requires
+    number-requires
+    cancel-requires
+    number-requires-2
+    cast-sum
+    cast-sum-2
+    add-sum
+    add-sum-2
+    add-i
+    loop-less
+    loop-again
+    rest-of-requires
+    add-result
+    returns)
