@@ -3,7 +3,7 @@ ghost use mathlib.Core.Path.{_≡_};
 ghost use Prim.Native.Nat.{_≤_};
 ghost use Rattle.rules.specs.Machine.{doing};
 ghost use Rattle.answers.specs.laws.Answers.{Lent, turnArea, turnState, turnDue, turnMemory};
-ghost use Rattle.requests.specs.Effects.{memoryOf};
+ghost use Rattle.effects.specs.Effects.{memoryOf};
 use memory::DeviceAnswer;
 use plan::records::AreaRecord;
 use plan::records::DeviceRecord;

@@ -2,7 +2,7 @@
 ghost use mathlib.Core.Path.{_≡_};
 ghost use Prim.Native.Nat.{_≤_};
 ghost use lib.ListN.{length, take};
-ghost use Rattle.requests.specs.Effects.{memoryOf};
+ghost use Rattle.effects.specs.Effects.{memoryOf};
 ghost use Rattle.session.specs.Fold.{playedAll};
 ghost use Rattle.interface.specs.Queries.{queryView};
 ghost use Rattle.interface.specs.Views.{jobView, areaView, noAreaView, areaViews, noStateView, stateView, keptView, deviceView, noDeviceView, deviceViews, loadView};

@@ -10,7 +10,7 @@ use Rattle.manager.specs.Calls.{processedOf, roundNumberOf, afterRound, memoryA
 use Rattle.manager.specs.declared.Manager.{Manager}
 use Rattle.memory.specs.declared.DeviceAnswer.{DeviceAnswer}
 use Rattle.memory.specs.declared.DeviceAnswer.the-variants.{Pending, Done, Failed}
-use Rattle.requests.specs.Effects.{memoryOf}
+use Rattle.effects.specs.Effects.{memoryOf}
 use Rattle.rules.specs.Memory.{Memory}
 use Rattle.loops.specs.Repeated.{total, turn}
 

@@ -4,7 +4,7 @@ ghost use lib.ListN.{replicate};
 ghost use Rattle.manager.specs.Calls.{jobNumberOf, afterJob, cancelNumberOf, afterCancel, roundNumberOf, afterRound, memoryAfterRound};
 ghost use Rattle.manager.specs.Load.{loadedManager};
 ghost use Rattle.memory.specs.Numbers.{admissionNumber};
-ghost use Rattle.requests.specs.Effects.{memoryOf};
+ghost use Rattle.effects.specs.Effects.{memoryOf};
 ghost use Rattle.loops.specs.Grown.{managerIn, grownOf};
 ghost use Rattle.loops.specs.Repeated.{pairTotal, busyManager};
 ghost use Rattle.loops.specs.Rounds.{answersOf, roundsTotal, benchAfter};

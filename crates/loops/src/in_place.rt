@@ -1,7 +1,7 @@
 // The same loops for an owner in place: it holds one manager and writes back what a call changes.
 ghost use mathlib.Core.Path.{_≡_};
 ghost use Rattle.manager.specs.Load.{loadedManager};
-ghost use Rattle.requests.specs.Effects.{memoryOf};
+ghost use Rattle.effects.specs.Effects.{memoryOf};
 ghost use Rattle.loops.specs.Repeated.{kindOf, taskOf, cancelTotal, jobTotal, pairTotal, busyManager};
 ghost use Rattle.loops.specs.Rounds.{answersOf, roundsTotal, benchAfter};
 use crate::answer_of;

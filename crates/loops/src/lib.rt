@@ -6,7 +6,7 @@ ghost use Rattle.manager.specs.Calls.{jobNumberOf, afterJob};
 ghost use Rattle.manager.specs.Load.{loadedManager};
 ghost use Rattle.loops.specs.Repeated.{taskOf, cancelTotal, jobTotal, pairTotal, busyManager, infoTotal};
 ghost use Rattle.memory.specs.Numbers.{admissionNumber};
-ghost use Rattle.requests.specs.Effects.{memoryOf};
+ghost use Rattle.effects.specs.Effects.{memoryOf};
 ghost use Rattle.loops.specs.Rounds.{answerNumbered, answersOf, processedTotal, roundsTotal, benchAfter};
 
 pub mod grown;

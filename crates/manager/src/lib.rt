@@ -7,7 +7,7 @@ ghost use mathlib.Core.List.{List};
 ghost use Rattle.memory.specs.declared.JobType.the-variants.{Write, Read, Compare, Erase, BlankCheck, Lock};
 ghost use Rattle.manager.specs.Calls.{managerOf, changed, jobNumberOf, afterJob, releaseNumberOf, afterRelease, cancelNumberOf, afterCancel, infoNumberOf, statusOf, resultOf, processedOf, noJobInfo, infoOf, jobTypeOf, memoryInfoNumberOf, memoryOfArea, roundNumberOf, afterRound, memoryAfterRound};
 ghost use Rattle.machine.specs.Sound.{jobIn};
-ghost use Rattle.requests.specs.Effects.{memoryOf};
+ghost use Rattle.effects.specs.Effects.{memoryOf};
 ghost use Rattle.manager.specs.Load.{freshManager, loadedManager};
 
 pub mod changes;

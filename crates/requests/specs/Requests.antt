@@ -30,7 +30,7 @@ use Rattle.segment.specs.declared.Segment.{Segment}
 use Rattle.state.specs.declared.DeviceState.{DeviceState}
 use Rattle.state.specs.declared.DeviceState.the-variants.{Free, Runs}
 use Rattle.state.specs.declared.Job.{Job}
-use Rattle.requests.specs.Effects.{lentEnd}
+use Rattle.effects.specs.Effects.{lentEnd}
 
 -- The job and the device after a verdict. Test: is the request dropped where it goes on, since "polls reach the patience"?
 abbrev pub takenJob : Layout → ℕ → Verdict → Bool → Job → Job

@@ -1,15 +1,13 @@
 // A running request takes its device's answer: what it does to image and store, to the job and to the device.
-pub mod effects;
-
 ghost use mathlib.Core.Path.{_≡_};
 ghost use Prim.Native.Nat.{_+_, _≤_};
 ghost use lib.Dec.{leb};
 ghost use lib.ListN.{length};
 ghost use Rattle.rules.specs.Memory.{verdictOf, answeredMemory};
-ghost use Rattle.requests.specs.Effects.{verdict, lentEnd, memoryOf};
+ghost use Rattle.effects.specs.Effects.{verdict, lentEnd, memoryOf};
 ghost use Rattle.requests.specs.Requests.{takenState, nextOf, finishedWith, takenWith, dueWith};
-use crate::effects::Outcome;
-use crate::effects::take_effect;
+use effects::Outcome;
+use effects::take_effect;
 use jobs::job_differs;
 use jobs::job_failed;
 use jobs::job_finished;

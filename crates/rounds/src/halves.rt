@@ -7,7 +7,7 @@ ghost use Rattle.rules.specs.Admission.{imageFits, storeReaches};
 ghost use Rattle.rules.specs.Layout.{layoutAt};
 ghost use Rattle.close.specs.Close.{areasAfter, devicesAfter, halvesOf};
 ghost use Rattle.rounds.specs.laws.NeedLaws.{needsOf};
-ghost use Rattle.requests.specs.Effects.{memoryOf};
+ghost use Rattle.effects.specs.Effects.{memoryOf};
 ghost use Rattle.state.specs.Ages.{ageIn};
 use answers::take_answer;
 use close::closed_area;

@@ -9,7 +9,7 @@ use lib.ListN.{length, take}
 use Rattle.arith.specs.Cases.{pick}
 use Rattle.lines.specs.Fields.{cutAt}
 use Rattle.manager.specs.declared.Manager.{Manager}
-use Rattle.requests.specs.Effects.{memoryOf}
+use Rattle.effects.specs.Effects.{memoryOf}
 use Rattle.rules.specs.Memory.{Memory}
 use Rattle.session.specs.Fold.{Session}
 use Rattle.session.specs.Play.{playedManager, playedMemory}

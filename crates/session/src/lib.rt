@@ -3,7 +3,7 @@ ghost use mathlib.Core.Path.{_≡_};
 ghost use Prim.Native.Nat.{_≤_};
 ghost use lib.ListN.{length};
 ghost use Rattle.manager.specs.Load.{loadedManager};
-ghost use Rattle.requests.specs.Effects.{memoryOf};
+ghost use Rattle.effects.specs.Effects.{memoryOf};
 ghost use Rattle.texts.specs.Appended.{Appended};
 ghost use Rattle.session.specs.Fold.{playedAll};
 ghost use Rattle.session.specs.laws.FoldLaws.{sessionOf};

@@ -3,7 +3,7 @@ ghost use mathlib.Core.Path.{_≡_};
 ghost use Rattle.loops.specs.Repeated.{cancelTotal, jobTotal, pairTotal, busyManager, infoTotal};
 ghost use Rattle.loops.specs.Rounds.{answersOf, roundsTotal, benchAfter};
 ghost use Rattle.manager.specs.Load.{loadedManager};
-ghost use Rattle.requests.specs.Effects.{memoryOf};
+ghost use Rattle.effects.specs.Effects.{memoryOf};
 
 // Calls by value.
 #[no_mangle]

@@ -13,7 +13,7 @@ use Rattle.segment.specs.declared.Segment.{Segment}
 use Rattle.state.specs.declared.Area.{Area}
 use Rattle.state.specs.declared.DeviceState.{DeviceState}
 use Rattle.state.specs.declared.DeviceState.the-variants.{Free, Runs, LockedFor}
-use Rattle.requests.specs.Effects.{lentEnd}
+use Rattle.effects.specs.Effects.{lentEnd}
 use Rattle.requests.specs.Requests.{takenState, takenWith, dueWith, nextOf}
 
 -- image and store hold what a running request needs of them

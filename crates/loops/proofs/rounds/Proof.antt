@@ -3,7 +3,7 @@ use mathlib.Core.Path.{_≡_, refl, ap, _∙_}
 use native.Mathlib.Omega.{arith}
 use borrow.Author.Needs.{needs}
 use lib.ListN as lists
-use Rattle.requests.specs.Effects.{memoryOf}
+use Rattle.effects.specs.Effects.{memoryOf}
 use Rattle.loops.specs.Rounds.{rounds, roundTotal, rounds-more, total-more-rounds, bench-is, benchOf, benchAfter}
 use Rattle.loops.proofs.rounds.Statement.{statement}
 use Rattle.loops.proofs.rounds.Tie as tie

@@ -7,7 +7,7 @@ use Rattle.requests.proofs.take_request.Statement.{statement}
 use Rattle.requests.proofs.take_request.Tie as tie
 use Rattle.requests.proofs.take_request.Reads as reads
 use Rattle.requests.proofs.take_request.Lts as lts
-use Rattle.requests.proofs.effects.take_effect.Reads as take-effect-reads
+use Rattle.effects.proofs.take_effect.Reads as take-effect-reads
 use Rattle.requests.proofs.is_dropped.Reads as is-dropped-reads
 use Rattle.requests.proofs.taken_due.Reads as taken-due-reads
 use Rattle.requests.proofs.taken_job.Reads as taken-job-reads

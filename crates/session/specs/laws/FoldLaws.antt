@@ -14,7 +14,7 @@ use Rattle.lines.specs.declared.Line.{Line}
 use Rattle.lines.specs.laws.FieldLaws.{word, fields-past, more-fields, no-fields}
 use Rattle.manager.specs.Load.{loadedManager}
 use Rattle.manager.specs.declared.Manager.{Manager}
-use Rattle.requests.specs.Effects.{memoryOf}
+use Rattle.effects.specs.Effects.{memoryOf}
 use Rattle.texts.specs.Appended.{Appended}
 use Rattle.session.specs.Fold.{Session, played, playedLast, playedLines, playedInput, playedAll}
 use Rattle.session.specs.PlanText.{planText, openText}

@@ -1,6 +1,6 @@
 use mathlib.Core.Path.{sym, ap, _∙_}
 use Rattle.memory.specs.Numbers.{admissionNumber}
-use Rattle.requests.specs.Effects.{memoryOf}
+use Rattle.effects.specs.Effects.{memoryOf}
 use Rattle.manager.specs.Calls.{managerOf, roundNumberOf}
 use Rattle.manager.specs.laws.CallLaws.{refused-some, round-asked, round-refused, round-accepted, round-memory-refused, round-memory-accepted}
 use borrow.Author.Needs.{needs}

@@ -6,7 +6,7 @@ use lib.ListN.{length, length-set}
 use Rattle.machine.specs.laws.Dues.{Due}
 use Rattle.machine.specs.laws.SoundCases.{sound-counts}
 use Rattle.machine.specs.Sound.{jobIn, coreIn}
-use Rattle.requests.specs.Effects.{memoryOf}
+use Rattle.effects.specs.Effects.{memoryOf}
 use Rattle.rules.specs.Machine.{secondHalf}
 use Rattle.rules.specs.Round.{takeAll, answerFor}
 use Rattle.close.specs.Close.{areaAfter, lentTo}

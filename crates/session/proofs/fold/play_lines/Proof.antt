@@ -6,7 +6,7 @@ use borrow.Author.Tests.{not-true, not-false}
 use Rattle.lines.specs.Fields.{cutFrom}
 use Rattle.lines.specs.laws.FieldLaws.{fields-all, fields-past}
 use Rattle.manager.specs.Calls.{managerOf}
-use Rattle.requests.specs.Effects.{memoryOf}
+use Rattle.effects.specs.Effects.{memoryOf}
 use Rattle.session.specs.Fold.{playedLines, playedInput}
 use Rattle.session.specs.laws.FoldLaws.{sessionOf, usedTo, lines-full, lines-none, lines-turn}
 use Rattle.session.specs.laws.PlayLaws.{unreadable-done, call-done, info-done, round-done}

@@ -7,10 +7,10 @@ use Rattle.arith.specs.Listed.{part-listed}
 use Rattle.arith.specs.Parts.{put}
 use Rattle.transfer.specs.PartLaws.{listed-window}
 use borrow.Author.Needs.{needs}
-use Rattle.requests.proofs.effects.write_on.Statement.{statement}
-use Rattle.requests.proofs.effects.write_on.Tie as tie
-use Rattle.requests.proofs.effects.write_on.Reads as reads
-use Rattle.requests.proofs.effects.write_on.Lts as lts
+use Rattle.effects.proofs.write_on.Statement.{statement}
+use Rattle.effects.proofs.write_on.Tie as tie
+use Rattle.effects.proofs.write_on.Reads as reads
+use Rattle.effects.proofs.write_on.Lts as lts
 use Rattle.transfer.proofs.and_part.Reads as and-part-reads
 use Rattle.transfer.proofs.window_part.Reads as window-part-reads
 use Rattle.transfer.proofs.write_part.Reads as write-part-reads

@@ -1,14 +1,14 @@
 use native.Mathlib.Nat.{le-trans}
 use Prim.Native.Nat.{_≤_}
-use Rattle.requests.specs.Effects.{lent-less}
+use Rattle.effects.specs.Effects.{lent-less}
 use native.Mathlib.Omega.{arith}
 use borrow.Author.Needs.{needs}
-use Rattle.requests.proofs.effects.take_effect.Statement.{statement}
-use Rattle.requests.proofs.effects.take_effect.Tie as tie
-use Rattle.requests.proofs.effects.take_effect.Reads as reads
-use Rattle.requests.proofs.effects.take_effect.Lts as lts
-use Rattle.requests.proofs.effects.act_on_first.Reads as act-on-first-reads
-use Rattle.requests.proofs.effects.finish.Reads as finish-reads
+use Rattle.effects.proofs.take_effect.Statement.{statement}
+use Rattle.effects.proofs.take_effect.Tie as tie
+use Rattle.effects.proofs.take_effect.Reads as reads
+use Rattle.effects.proofs.take_effect.Lts as lts
+use Rattle.effects.proofs.act_on_first.Reads as act-on-first-reads
+use Rattle.effects.proofs.finish.Reads as finish-reads
 use Rattle.transfer.proofs.least.Reads as least-reads
 
 enum-told : tie.Need-enum-told

@@ -1,14 +1,14 @@
 use native.Mathlib.Omega.{arith}
 use borrow.Author.Needs.{needs}
-use Rattle.requests.proofs.effects.finish.Statement.{statement}
-use Rattle.requests.proofs.effects.finish.Tie as tie
-use Rattle.requests.proofs.effects.finish.Reads as reads
-use Rattle.requests.proofs.effects.finish.Lts as lts
+use Rattle.effects.proofs.finish.Statement.{statement}
+use Rattle.effects.proofs.finish.Tie as tie
+use Rattle.effects.proofs.finish.Reads as reads
+use Rattle.effects.proofs.finish.Lts as lts
 use Rattle.transfer.proofs.blank_part.Reads as blank-part-reads
 use Rattle.transfer.proofs.erase_part.Reads as erase-part-reads
 use Rattle.transfer.proofs.read_part.Reads as read-part-reads
-use Rattle.requests.proofs.effects.compare_on.Reads as compare-on-reads
-use Rattle.requests.proofs.effects.write_on.Reads as write-on-reads
+use Rattle.effects.proofs.compare_on.Reads as compare-on-reads
+use Rattle.effects.proofs.write_on.Reads as write-on-reads
 
 enum-told : tie.Need-enum-told
 enum-told c = search needs

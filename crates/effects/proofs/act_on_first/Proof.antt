@@ -1,11 +1,11 @@
 use native.Mathlib.Omega.{arith}
 use borrow.Author.Needs.{needs}
-use Rattle.requests.proofs.effects.act_on_first.Statement.{statement}
-use Rattle.requests.proofs.effects.act_on_first.Tie as tie
-use Rattle.requests.proofs.effects.act_on_first.Reads as reads
-use Rattle.requests.proofs.effects.act_on_first.Lts as lts
+use Rattle.effects.proofs.act_on_first.Statement.{statement}
+use Rattle.effects.proofs.act_on_first.Tie as tie
+use Rattle.effects.proofs.act_on_first.Reads as reads
+use Rattle.effects.proofs.act_on_first.Lts as lts
 use Rattle.transfer.proofs.erase_part.Reads as erase-part-reads
-use Rattle.requests.proofs.effects.write_on.Reads as write-on-reads
+use Rattle.effects.proofs.write_on.Reads as write-on-reads
 
 enum-told : tie.Need-enum-told
 enum-told c = search needs

@@ -5,7 +5,7 @@ ghost use lib.ListN.{length};
 ghost use Rattle.arith.specs.Parts.{put};
 ghost use Rattle.memory.specs.declared.JobType.the-variants.{Compare};
 ghost use Rattle.rules.specs.Memory.{written, imageAfter, storeAfter, agrees, verdictOf, answeredMemory};
-ghost use Rattle.requests.specs.Effects.{verdict, lentEnd, memoryOf};
+ghost use Rattle.effects.specs.Effects.{verdict, lentEnd, memoryOf};
 use memory::DeviceAnswer;
 use memory::JobType;
 use transfer::and_part;
@@ -107,7 +107,7 @@ fn act_on_first(
 }
 
 // A request of n bytes at `at` in the image and at `window` in the store takes its answer. `clears`: its device only clears bits.
-pub(crate) fn take_effect(
+pub fn take_effect(
     clears: bool,
     answer: DeviceAnswer,
     kind: JobType,

@@ -4,10 +4,10 @@ use lib.Dec.{eqb}
 use lib.ListN.{getD}
 use native.Mathlib.Omega.{arith}
 use borrow.Author.Needs.{needs}
-use Rattle.requests.proofs.effects.compare_on.Statement.{statement}
-use Rattle.requests.proofs.effects.compare_on.Tie as tie
-use Rattle.requests.proofs.effects.compare_on.Reads as reads
-use Rattle.requests.proofs.effects.compare_on.Lts as lts
+use Rattle.effects.proofs.compare_on.Statement.{statement}
+use Rattle.effects.proofs.compare_on.Tie as tie
+use Rattle.effects.proofs.compare_on.Reads as reads
+use Rattle.effects.proofs.compare_on.Lts as lts
 use Rattle.transfer.proofs.same_part.Reads as same-part-reads
 use Rattle.transfer.proofs.window_part.Reads as window-part-reads
 use Rattle.transfer.specs.PartLaws.{every-window}

@@ -6,8 +6,8 @@ use Rattle.memory.specs.declared.JobType.{JobType}
 use Rattle.memory.specs.declared.JobType.the-variants.{NoJob, Write, Read, Compare, Erase, BlankCheck, Lock}
 use Rattle.rules.specs.Machine.{Verdict, goesOn, finished, differs, failed}
 use Rattle.rules.specs.Memory.{Memory}
-use Rattle.requests.specs.declared.effects.Outcome.{Outcome}
-use Rattle.requests.specs.declared.effects.Outcome.the-variants as Outcomes
+use Rattle.effects.specs.declared.Outcome.{Outcome}
+use Rattle.effects.specs.declared.Outcome.the-variants as Outcomes
 
 abbrev pub verdict : Outcome → Verdict
 verdict Outcomes.GoesOn = goesOn
