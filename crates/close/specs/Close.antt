@@ -5,7 +5,7 @@ use mathlib.Core.List.{List, []}
 use lib.ListN.{getD}
 use Rattle.arith.specs.Cases.{pick}
 use Rattle.arith.specs.Tables.{table}
-use Rattle.machine.specs.Sound.{jobIn, coreIn}
+use Rattle.devices.specs.Arrays.{jobIn, coreIn}
 use Rattle.memory.specs.declared.DeviceAnswer.{DeviceAnswer}
 use Rattle.plan.specs.declared.records.Plan.{Plan}
 use Rattle.rules.specs.Layout.{Layout}

@@ -4,17 +4,16 @@ use Prim.Native.Nat.{ℕ, _+_}
 use mathlib.Core.Bool.{Bool, true, not, _&&_}
 use mathlib.Core.List.{List}
 use lib.Dec.{ltb, leb, eqb}
-use lib.ListN.{getD}
 use Rattle.arith.specs.Bounded.{every}
+use Rattle.devices.specs.Arrays.{jobIn, stateIn}
 use Rattle.plan.specs.Questions.{areaOf, deviceOf, lengthSum, countsFit}
 use Rattle.plan.specs.declared.records.AreaRecord.{AreaRecord}
 use Rattle.plan.specs.declared.records.DeviceRecord.{DeviceRecord}
 use Rattle.plan.specs.declared.records.Plan.{Plan}
 use Rattle.rules.specs.Admission.{usesWindow, ifAsked}
-use Rattle.rules.specs.Machine.{Core, isPending}
+use Rattle.rules.specs.Machine.{isPending}
 use Rattle.segment.specs.Segments.{isLock, segmentAt}
 use Rattle.segment.specs.declared.Segment.{Segment}
-use Rattle.state.specs.Fresh.{freshArea, freeDevice}
 use Rattle.state.specs.declared.Area.{Area}
 use Rattle.state.specs.declared.Device.{Device}
 use Rattle.state.specs.declared.DeviceState.{DeviceState}
@@ -46,20 +45,6 @@ abbrev pub stateSound : Plan → ℕ → (ℕ → Job) → DeviceState → Bool
 stateSound p d jobs Free = true
 stateSound p d jobs (LockedFor a) = true
 stateSound p d jobs (Runs a polls) = requestSound p d a polls (jobs a)
-
--- an area's job, a device, and what it does, in the manager's arrays
-abbrev pub jobIn : List Area → ℕ → Job
-jobIn l a = getD l a freshArea .job
-
-abbrev pub deviceIn : List Device → ℕ → Device
-deviceIn l d = getD l d freeDevice
-
-abbrev pub stateIn : List Device → ℕ → DeviceState
-stateIn l d = deviceIn l d .state
-
--- jobs and devices, as the rules see them
-abbrev pub coreIn : List Area → List Device → Core
-coreIn areas devices = record { jobs = jobIn areas; devices = deviceIn devices }
 
 -- "Does the state pass the team's soundness test?" The manager of all zeros has no device, so it does not.
 unfoldable pub isSound : Plan → List Area → List Device → Bool

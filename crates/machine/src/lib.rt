@@ -1,4 +1,3 @@
-// The machine in code: what happens to one job, one device, one area.
-pub mod devices;
+// Question 9, the soundness test, and the due segments of a round.
 pub mod dues;
 pub mod soundness;

@@ -2,7 +2,8 @@
 ghost use mathlib.Core.Path.{_≡_};
 ghost use Prim.Native.Nat.{_+_, _≤_, _<_};
 ghost use Rattle.arith.specs.Bounded.{every, some};
-ghost use Rattle.machine.specs.Sound.{jobRuns, segmentFits, stateSound, jobIn, stateIn, isSound};
+ghost use Rattle.devices.specs.Arrays.{jobIn, stateIn};
+ghost use Rattle.machine.specs.Sound.{jobRuns, segmentFits, stateSound, isSound};
 ghost use Rattle.machine.specs.laws.Dues.{runnerOf, stateFits, runningSegment, isRunning};
 use admission::uses_window;
 use jobs::is_pending;

@@ -8,7 +8,8 @@ use lib.ListN.{set}
 use Rattle.arith.specs.Cases.{pick}
 use Rattle.arith.specs.FirstNo.{firstNo}
 use Rattle.arith.specs.Tables.{table}
-use Rattle.machine.specs.Sound.{isSound, coreIn}
+use Rattle.devices.specs.Arrays.{coreIn}
+use Rattle.machine.specs.Sound.{isSound}
 use Rattle.memory.specs.Numbers.{jobTypeNumber, statusNumber}
 use Rattle.memory.specs.declared.DeviceAnswer.{DeviceAnswer}
 use Rattle.memory.specs.declared.JobResult.{JobResult}

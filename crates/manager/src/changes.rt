@@ -10,9 +10,9 @@ ghost use Rattle.manager.specs.Calls.{managerOf, changed, jobNumberOf, a
 ghost use Rattle.manager.specs.laws.ChangeLaws.{placeOf, askedArea, unchanged, begunChange, stoppedChange};
 use admission::range_admission;
 use admission::range_device;
+use devices::cancelled_job;
 use jobs::begun;
 use jobs::ranks::ages_after;
-use machine::devices::cancelled_job;
 use machine::soundness::is_sound;
 use memory::Admission;
 use memory::DeviceAnswer;

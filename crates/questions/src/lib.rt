@@ -11,13 +11,14 @@ ghost use Rattle.rules.specs.Admission.{skip, infoQuestions, memoryInfoQuestion
 ghost use Rattle.rules.specs.Machine.{isPending};
 ghost use Rattle.plan.specs.Questions.{countsFit};
 ghost use Rattle.questions.specs.laws.QuestionLaws.{devicesAlone};
-ghost use Rattle.machine.specs.Sound.{isSound, jobIn};
+ghost use Rattle.devices.specs.Arrays.{jobIn};
+ghost use Rattle.machine.specs.Sound.{isSound};
 ghost use Rattle.machine.specs.laws.Dues.{Due, DueIfSound};
 use admission::is_inside;
 use admission::on_one_device;
 use admission::range_device;
+use devices::holds_lock;
 use jobs::is_pending;
-use machine::devices::holds_lock;
 use machine::dues::due_segments;
 use machine::dues::states_fit;
 use memory::Admission;

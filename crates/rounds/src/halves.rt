@@ -2,7 +2,8 @@
 ghost use mathlib.Core.Bool.{true};
 ghost use mathlib.Core.Path.{_≡_};
 ghost use Rattle.machine.specs.laws.Dues.{Due};
-ghost use Rattle.machine.specs.Sound.{jobIn, isSound};
+ghost use Rattle.devices.specs.Arrays.{jobIn};
+ghost use Rattle.machine.specs.Sound.{isSound};
 ghost use Rattle.rules.specs.Admission.{imageFits, storeReaches};
 ghost use Rattle.rules.specs.Layout.{layoutAt};
 ghost use Rattle.close.specs.Close.{areasAfter, devicesAfter, halvesOf};
@@ -11,7 +12,7 @@ ghost use Rattle.effects.specs.Effects.{memoryOf};
 ghost use Rattle.state.specs.Ages.{ageIn};
 use answers::take_answer;
 use close::closed_area;
-use machine::devices::state_on;
+use devices::state_on;
 use machine::soundness::runner;
 use memory::DeviceAnswer;
 use picks::chosen;

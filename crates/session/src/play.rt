@@ -2,7 +2,7 @@
 ghost use mathlib.Core.Path.{_≡_};
 ghost use Prim.Native.Nat.{_+_, _≤_, _<_};
 ghost use lib.ListN.{length};
-ghost use Rattle.machine.specs.Sound.{coreIn};
+ghost use Rattle.devices.specs.Arrays.{coreIn};
 ghost use Rattle.manager.specs.Calls.{ifAccepted, managerOf, changed};
 ghost use Rattle.memory.specs.Numbers.{admissionNumber};
 ghost use Rattle.shown.specs.Shown.{devicesLine};

@@ -2,7 +2,7 @@
 ghost use mathlib.Core.Path.{_≡_};
 ghost use Prim.Native.Nat.{_+_, _≤_};
 ghost use lib.ListN.{length};
-ghost use Rattle.machine.specs.Sound.{jobIn, coreIn};
+ghost use Rattle.devices.specs.Arrays.{jobIn, coreIn};
 ghost use Rattle.plan.specs.Questions.{areaOf};
 ghost use Rattle.rules.specs.Session.{shownOn, shownTo};
 ghost use Rattle.texts.specs.Appended.{Appended};

@@ -27,7 +27,8 @@ use Rattle.state.specs.declared.Device.{Device}
 use Rattle.state.specs.declared.DeviceState.{DeviceState}
 use Rattle.state.specs.declared.DeviceState.the-variants.{Free, Runs, LockedFor}
 use Rattle.state.specs.declared.Job.{Job}
-use Rattle.machine.specs.Sound.{jobRuns, requestFits, requestSound, stateSound, jobIn, stateIn, isSound}
+use Rattle.devices.specs.Arrays.{jobIn, stateIn}
+use Rattle.machine.specs.Sound.{jobRuns, requestFits, requestSound, stateSound, isSound}
 use Rattle.machine.specs.laws.SoundCases.{devices-decide, counts-few}
 
 abbrev pub dueFound : List SubAreaRecord → ℕ → ℕ → ℕ → Job → Found

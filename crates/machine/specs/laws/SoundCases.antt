@@ -15,7 +15,8 @@ use Rattle.segment.specs.declared.Segment.{Segment}
 use Rattle.state.specs.declared.Area.{Area}
 use Rattle.state.specs.declared.Device.{Device}
 use Rattle.state.specs.declared.Job.{Job}
-use Rattle.machine.specs.Sound.{segmentFits, stateSound, jobIn, stateIn, isSound}
+use Rattle.devices.specs.Arrays.{jobIn, stateIn}
+use Rattle.machine.specs.Sound.{segmentFits, stateSound, isSound}
 
 module _ (p : Plan) (areas : List Area) (devices : List Device) where
   pub other-counts : countsFit (p .«device_count») (p .«area_count») (p .«sub_area_count») ≡ false → false ≡ isSound p areas devices

@@ -21,7 +21,8 @@ use Rattle.state.specs.declared.Area.{Area}
 use Rattle.state.specs.declared.Device.{Device}
 use Rattle.state.specs.declared.DeviceState.{DeviceState}
 use Rattle.state.specs.declared.DeviceState.the-variants.{Free, Runs, LockedFor}
-use Rattle.machine.specs.Sound.{jobRuns, segmentFits, requestSound, stateSound, jobIn, stateIn, coreIn, isSound}
+use Rattle.devices.specs.Arrays.{jobIn, stateIn, coreIn}
+use Rattle.machine.specs.Sound.{jobRuns, segmentFits, requestSound, stateSound, isSound}
 
 -- a question that is asked only sometimes
 asked : (u q : Bool) → (u ≡ true → q ≡ true) → ifAsked u q ≡ true

@@ -21,9 +21,10 @@ use Rattle.memory.specs.declared.Admission.the-variants.{Refused}
 use Rattle.memory.specs.declared.Refusal.{Refusal}
 use Rattle.memory.specs.declared.LogicalAddress.{LogicalAddress}
 use Rattle.memory.specs.declared.Task.{Task}
-use Rattle.machine.specs.laws.DeviceLaws.{lock-known}
+use Rattle.devices.specs.laws.DeviceLaws.{lock-known}
 use Rattle.questions.specs.laws.QuestionLaws.{devicesAlone}
-use Rattle.machine.specs.Sound.{jobIn, deviceIn, isSound}
+use Rattle.devices.specs.Arrays.{jobIn, deviceIn}
+use Rattle.machine.specs.Sound.{isSound}
 use Rattle.machine.specs.laws.SoundCases.{sound-few}
 use Rattle.close.specs.Close.{waitsIn, areasAfter, devicesAfter, halvesOf}
 use Rattle.rules.specs.Admission.{isKnown, rangeDevice, releaseQuestions, infoQuestions, memoryInfoQuestions, imageFits, storeReaches, roundNumber}

@@ -12,8 +12,9 @@ use Rattle.arith.specs.Cases.{pick, by-bool}
 use Rattle.arith.specs.FirstNo.{firstNo, none-elim}
 use Rattle.arith.specs.Parts.{upd-same}
 use Rattle.arith.specs.Tables.{table}
-use Rattle.machine.specs.Sound.{isSound, jobIn, deviceIn}
-use Rattle.machine.specs.laws.DeviceLaws.{begun-first, cancel-alone}
+use Rattle.devices.specs.Arrays.{jobIn, deviceIn}
+use Rattle.machine.specs.Sound.{isSound}
+use Rattle.devices.specs.laws.DeviceLaws.{begun-first, cancel-alone}
 use Rattle.machine.specs.laws.SoundCases.{sound-few}
 use Rattle.memory.specs.Numbers.{admissionNumber}
 use Rattle.memory.specs.declared.Admission.{Admission}

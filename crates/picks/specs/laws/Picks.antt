@@ -7,7 +7,7 @@ use native.Mathlib.Numerals.{add-one}
 use lib.Dec.{ltb, eqb}
 use lib.ListN.{getD}
 use Rattle.arith.specs.Cases.{pick}
-use Rattle.machine.specs.Sound.{jobIn}
+use Rattle.devices.specs.Arrays.{jobIn}
 use Rattle.memory.specs.declared.JobType.{JobType}
 use Rattle.plan.specs.Questions.{areaOf}
 use Rattle.plan.specs.declared.records.AreaRecord.{AreaRecord}

@@ -7,8 +7,8 @@ use native.Mathlib.Omega.{arith}
 use borrow.Author.Tests.{le-ltb, ne-eqb}
 use Rattle.arith.specs.Cases.{by-ltb}
 use Rattle.arith.specs.Tables.{table, length-table, table-at}
-use Rattle.machine.specs.laws.Arrays.{job-past, device-past}
-use Rattle.machine.specs.Sound.{jobIn, deviceIn, coreIn}
+use Rattle.devices.specs.laws.ArrayLaws.{job-past, device-past}
+use Rattle.devices.specs.Arrays.{jobIn, deviceIn, coreIn}
 use Rattle.close.specs.Close.{closed, waitsIn, areaAfter, areasAfter, devicesAfter}
 use Rattle.rules.specs.Layout.{Layout}
 use Rattle.rules.specs.Machine.{Core, isPending, waitOf}

@@ -9,7 +9,8 @@ use borrow.Author.Tests.{ltb-true, leb-true, eqb-true}
 use Rattle.arith.specs.Bounded.{every-elim}
 use Rattle.arith.specs.Cases.{by-bool}
 use Rattle.arith.specs.Plain.{and-plain}
-use Rattle.machine.specs.Sound.{isSound, jobIn, stateIn, stateSound, segmentFits, requestSound}
+use Rattle.devices.specs.Arrays.{jobIn, stateIn}
+use Rattle.machine.specs.Sound.{isSound, stateSound, segmentFits, requestSound}
 use Rattle.manager.specs.Calls.{coreOf, afterJob, afterRelease, afterCancel, roundNumberOf, afterRound, memoryAfterRound}
 use Rattle.manager.specs.declared.Manager.{Manager}
 use Rattle.memory.specs.declared.DeviceAnswer.{DeviceAnswer}

@@ -20,7 +20,7 @@ use Rattle.state.specs.declared.Device.{Device}
 use Rattle.state.specs.declared.DeviceState.the-variants.{LockedFor}
 use Rattle.state.specs.declared.Job.{Job}
 use Rattle.state.specs.declared.Waits.{Waits}
-use Rattle.machine.specs.laws.Arrays.{view-set, job-set, device-set, state-past}
+use Rattle.devices.specs.laws.ArrayLaws.{view-set, job-set, device-set, state-past}
 use Rattle.program.specs.laws.Arrays.{ages-set}
 use Rattle.program.specs.Stands.{stuck, agesOf, beside, Stands}
 

@@ -14,7 +14,7 @@ use Rattle.rules.specs.Memory.{Memory}
 use Rattle.rules.specs.Round.{Half, roundHalves}
 use Rattle.state.specs.Fresh.{noJob, freeDevice}
 use Rattle.program.specs.laws.Answers.{Reached, halves-are}
-use Rattle.machine.specs.laws.Arrays.{job-past, device-past}
+use Rattle.devices.specs.laws.ArrayLaws.{job-past, device-past}
 use Rattle.program.specs.laws.Arrays.{areas-after-length, devices-after-length, waits-after, core-after}
 use Rattle.program.specs.laws.Halves.{round-leaves-job, round-leaves-device}
 use Rattle.program.specs.Stands.{stuck, agesOf, beside, Stands}

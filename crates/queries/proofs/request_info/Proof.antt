@@ -6,7 +6,7 @@ use Rattle.queries.proofs.request_info.Statement.{statement}
 use Rattle.queries.proofs.request_info.Tie as tie
 use Rattle.queries.proofs.request_info.Reads as reads
 use Rattle.queries.proofs.request_info.Lts as lts
-use Rattle.machine.proofs.devices.held_somewhere.Reads as held-somewhere-reads
+use Rattle.devices.proofs.held_somewhere.Reads as held-somewhere-reads
 use Rattle.queries.proofs.no_request.Reads as no-request-reads
 use Rattle.queries.proofs.running_request.Reads as running-request-reads
 

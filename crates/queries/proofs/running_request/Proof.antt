@@ -1,12 +1,12 @@
 use mathlib.Core.Path.{_∙_}
 use Rattle.queries.specs.laws.QueryLaws.{request-of}
-use Rattle.machine.specs.Sound.{jobIn}
+use Rattle.devices.specs.Arrays.{jobIn}
 use borrow.Author.Needs.{needs}
 use Rattle.queries.proofs.running_request.Statement.{statement}
 use Rattle.queries.proofs.running_request.Tie as tie
 use Rattle.queries.proofs.running_request.Reads as reads
 use Rattle.queries.proofs.running_request.Lts as lts
-use Rattle.machine.proofs.devices.state_on.Reads as state-on-reads
+use Rattle.devices.proofs.state_on.Reads as state-on-reads
 use Rattle.queries.proofs.request_on.Reads as request-on-reads
 use Rattle.segment.proofs.segment_at.Reads as segment-at-reads
 

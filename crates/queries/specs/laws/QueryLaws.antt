@@ -7,8 +7,8 @@ use native.Mathlib.Omega.{arith}
 use borrow.Author.Tests.{eq-eqb, ne-eqb}
 use lib.ListN.{length}
 use Rattle.arith.specs.Bounded.{some}
-use Rattle.machine.specs.Sound.{deviceIn, stateIn}
-use Rattle.machine.specs.laws.DeviceLaws.{none-held}
+use Rattle.devices.specs.Arrays.{deviceIn, stateIn}
+use Rattle.devices.specs.laws.DeviceLaws.{none-held}
 use Rattle.memory.specs.declared.LogicalAddress.{LogicalAddress}
 use Rattle.memory.specs.declared.MemAddress.{MemAddress}
 use Rattle.plan.specs.Questions.{subAreaOf, sizeOf}

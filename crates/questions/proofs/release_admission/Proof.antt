@@ -11,7 +11,7 @@ use Rattle.questions.proofs.release_admission.Lts as lts
 use Rattle.admission.proofs.is_inside.Reads as is-inside-reads
 use Rattle.admission.proofs.on_one_device.Reads as on-one-device-reads
 use Rattle.admission.proofs.range_device.Reads as range-device-reads
-use Rattle.machine.proofs.devices.holds_lock.Reads as holds-lock-reads
+use Rattle.devices.proofs.holds_lock.Reads as holds-lock-reads
 
 returns : tie.Need-returns
 unfolding firstNo releaseQuestions

@@ -2,7 +2,7 @@ use mathlib.Core.Bool.{false≢true}
 use borrow.Author.Tests.{not-true, not-false}
 use mathlib.Core.Path.{sym, subst, _∙_}
 use Rattle.machine.specs.laws.Dues.{Due, dues-found}
-use Rattle.machine.specs.Sound.{jobIn}
+use Rattle.devices.specs.Arrays.{jobIn}
 use Rattle.machine.specs.laws.SoundCases.{other-counts, counts-few}
 use Rattle.questions.specs.laws.QuestionLaws.{round-unsound}
 use borrow.Author.Needs.{needs}

@@ -15,7 +15,8 @@ use Rattle.rules.specs.Machine.{Core}
 use Rattle.state.specs.Fresh.{noJob}
 use Rattle.state.specs.declared.Area.{Area}
 use Rattle.state.specs.declared.Device.{Device}
-use Rattle.machine.specs.Sound.{deviceIn, isSound}
+use Rattle.devices.specs.Arrays.{deviceIn}
+use Rattle.machine.specs.Sound.{isSound}
 
 -- the devices alone: a release is asked nothing of the jobs
 abbrev pub devicesAlone : List Device → Core

@@ -9,8 +9,9 @@ use borrow.Author.Tests.{eqb-true}
 use Rattle.arith.specs.Bounded.{every-elim}
 use Rattle.arith.specs.Parts.{upd, upd-other, upd-case}
 use Rattle.arith.specs.Plain.{and-plain}
-use Rattle.machine.specs.laws.Arrays.{job-set, device-set}
-use Rattle.machine.specs.Sound.{jobIn, deviceIn, stateIn, coreIn, segmentFits, requestSound, stateSound, isSound}
+use Rattle.devices.specs.laws.ArrayLaws.{job-set, device-set}
+use Rattle.devices.specs.Arrays.{jobIn, deviceIn, stateIn, coreIn}
+use Rattle.machine.specs.Sound.{segmentFits, requestSound, stateSound, isSound}
 use Rattle.memory.specs.declared.DeviceAnswer.{DeviceAnswer}
 use Rattle.plan.specs.declared.records.Plan.{Plan}
 use Rattle.rules.specs.Admission.{imageFits, storeReaches}

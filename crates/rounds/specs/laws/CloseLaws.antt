@@ -6,8 +6,8 @@ use lib.ListN.{length, length-set, getD, set}
 use native.Mathlib.Omega.{arith}
 use Rattle.arith.specs.Parts.{upd-case}
 use Rattle.arith.specs.Tables.{table-whole}
-use Rattle.machine.specs.laws.Arrays.{view-set}
-use Rattle.machine.specs.Sound.{jobIn, stateIn, coreIn}
+use Rattle.devices.specs.laws.ArrayLaws.{view-set}
+use Rattle.devices.specs.Arrays.{jobIn, stateIn, coreIn}
 use Rattle.plan.specs.declared.records.AreaRecord.{AreaRecord}
 use Rattle.rules.specs.Layout.{Layout}
 use Rattle.rules.specs.Machine as Machine

@@ -9,7 +9,7 @@ use Rattle.arith.specs.Cases.{by-bool}
 use Rattle.arith.specs.Parts.{upd-case}
 use Rattle.arith.specs.Tables.{table, table-at, table-same, table-whole}
 use Rattle.machine.specs.laws.Dues.{Due}
-use Rattle.machine.specs.Sound.{jobIn, deviceIn, coreIn}
+use Rattle.devices.specs.Arrays.{jobIn, deviceIn, coreIn}
 use Rattle.memory.specs.declared.DeviceAnswer.{DeviceAnswer}
 use Rattle.plan.specs.Questions.{deviceOf}
 use Rattle.plan.specs.declared.records.Plan.{Plan}

@@ -10,9 +10,9 @@ use lib.Dec.{ltb}
 use lib.ListN.{length, getD, set}
 use Rattle.arith.specs.Cases.{pick, by-bool, by-ltb}
 use Rattle.arith.specs.Parts.{upd}
-use Rattle.machine.specs.laws.Arrays.{job-past}
+use Rattle.devices.specs.laws.ArrayLaws.{job-past}
 use Rattle.machine.specs.laws.Dues.{runnerOf}
-use Rattle.machine.specs.Sound.{jobIn, deviceIn, stateIn, coreIn}
+use Rattle.devices.specs.Arrays.{jobIn, deviceIn, stateIn, coreIn}
 use Rattle.plan.specs.Questions.{areaOf, deviceOf}
 use Rattle.plan.specs.declared.records.AreaRecord.{AreaRecord}
 use Rattle.plan.specs.declared.records.DeviceRecord.{DeviceRecord}

@@ -7,9 +7,10 @@ use native.Mathlib.Omega.{arith}
 use borrow.Author.Tests.{lt-ltb}
 use lib.ListN.{length, getD, set}
 use Rattle.arith.specs.Parts.{upd, upd-case}
-use Rattle.machine.specs.laws.Arrays.{view-set, job-set}
+use Rattle.devices.specs.laws.ArrayLaws.{view-set, job-set}
 use Rattle.machine.specs.laws.Dues.{Due, runnerOf}
-use Rattle.machine.specs.Sound.{jobIn, deviceIn, stateIn, coreIn, requestSound, stateSound}
+use Rattle.devices.specs.Arrays.{jobIn, deviceIn, stateIn, coreIn}
+use Rattle.machine.specs.Sound.{requestSound, stateSound}
 use Rattle.memory.specs.declared.DeviceAnswer.{DeviceAnswer}
 use Rattle.plan.specs.Questions.{areaOf, deviceOf}
 use Rattle.plan.specs.declared.records.AreaRecord.{AreaRecord}

@@ -1,5 +1,5 @@
 use native.Mathlib.Omega.{arith}
-use Rattle.machine.specs.Sound.{jobIn}
+use Rattle.devices.specs.Arrays.{jobIn}
 use Rattle.shown.specs.laws.ShownLaws.{request-shown}
 use borrow.Author.Needs.{needs}
 use Rattle.shown.proofs.area_request.Statement.{statement}

@@ -1,5 +1,5 @@
 use native.Mathlib.Omega.{arith}
-use Rattle.machine.specs.Sound.{jobIn}
+use Rattle.devices.specs.Arrays.{jobIn}
 use Rattle.shown.specs.laws.ShownLaws.{free-shown, locked-shown, runs-shown}
 use borrow.Author.Needs.{needs}
 use Rattle.shown.proofs.device_text.Statement.{statement}

@@ -4,7 +4,7 @@ use lib.ListN.{length}
 use native.Mathlib.Omega.{arith}
 use Rattle.texts.specs.Appended.{Appended}
 use Rattle.texts.specs.laws.AppendLaws.{append-same}
-use Rattle.machine.specs.Sound.{coreIn}
+use Rattle.devices.specs.Arrays.{coreIn}
 use Rattle.rules.specs.Session.{shownTo}
 use Rattle.shown.specs.Shown.{shownTexts}
 use Rattle.shown.specs.laws.ShownLaws.{device-shown, none-shown}

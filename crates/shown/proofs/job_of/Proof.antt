@@ -1,6 +1,6 @@
 use mathlib.Core.Path.{sym, ap, _∙_}
 use native.Mathlib.Omega.{arith}
-use Rattle.machine.specs.laws.Arrays.{job-past}
+use Rattle.devices.specs.laws.ArrayLaws.{job-past}
 use borrow.Author.Needs.{needs}
 use Rattle.shown.proofs.job_of.Statement.{statement}
 use Rattle.shown.proofs.job_of.Tie as tie

@@ -1,5 +1,5 @@
 use Rattle.plan.specs.Questions.{areaOf}
-use Rattle.machine.specs.Sound.{jobIn}
+use Rattle.devices.specs.Arrays.{jobIn}
 use lib.ListN.{set, replicate}
 use Prim.Native.Nat.{_-_, _≤_}
 use mathlib.Core.Path.{_≡_, sym, ap, _∙_}

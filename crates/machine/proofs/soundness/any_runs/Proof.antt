@@ -1,4 +1,4 @@
-use Rattle.machine.specs.Sound.{stateIn}
+use Rattle.devices.specs.Arrays.{stateIn}
 use Rattle.machine.specs.laws.Dues.{isRunning}
 use Rattle.arith.specs.Bounded.{some, some-intro, some-none}
 use mathlib.Core.Bool.{false}

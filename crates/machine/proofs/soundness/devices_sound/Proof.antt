@@ -1,4 +1,5 @@
-use Rattle.machine.specs.Sound.{stateSound, jobIn, stateIn}
+use Rattle.devices.specs.Arrays.{jobIn, stateIn}
+use Rattle.machine.specs.Sound.{stateSound}
 use Rattle.machine.specs.laws.Dues.{running-decides}
 use mathlib.Core.Bool.{true}
 use Prim.Native.Nat.{_-_, _≤_}

@@ -3,7 +3,7 @@ use Rattle.manager.proofs.changes.stop.Statement.{statement}
 use Rattle.manager.proofs.changes.stop.Tie as tie
 use Rattle.manager.proofs.changes.stop.Reads as reads
 use Rattle.manager.proofs.changes.stop.Lts as lts
-use Rattle.machine.proofs.devices.cancelled_job.Reads as cancelled-job-reads
+use Rattle.devices.proofs.cancelled_job.Reads as cancelled-job-reads
 
 cancelled-job-requires : tie.Need-cancelled-job-requires
 cancelled-job-requires c κs = search needs

@@ -5,7 +5,7 @@ use native.Mathlib.Omega.{arith}
 use lib.ListN.{length, length-set}
 use Rattle.machine.specs.laws.Dues.{Due}
 use Rattle.machine.specs.laws.SoundCases.{sound-counts}
-use Rattle.machine.specs.Sound.{jobIn, coreIn}
+use Rattle.devices.specs.Arrays.{jobIn, coreIn}
 use Rattle.effects.specs.Effects.{memoryOf}
 use Rattle.rules.specs.Machine.{secondHalf}
 use Rattle.rules.specs.Round.{takeAll, answerFor}
@@ -22,7 +22,7 @@ use Rattle.rounds.proofs.halves.run_round.Statement.{statement}
 use Rattle.rounds.proofs.halves.run_round.Tie as tie
 use Rattle.rounds.proofs.halves.run_round.Reads as reads
 use Rattle.rounds.proofs.halves.run_round.Lts as lts
-use Rattle.machine.proofs.devices.state_on.Reads as state-on-reads
+use Rattle.devices.proofs.state_on.Reads as state-on-reads
 use Rattle.machine.proofs.soundness.runner.Reads as runner-reads
 use Rattle.answers.proofs.take_answer.Reads as take-answer-reads
 use Rattle.close.proofs.closed_area.Reads as closed-area-reads

@@ -1,11 +1,11 @@
 use mathlib.Core.Path.{sym}
 use native.Mathlib.Omega.{arith}
-use Rattle.machine.specs.laws.Arrays.{state-past}
+use Rattle.devices.specs.laws.ArrayLaws.{state-past}
 use borrow.Author.Needs.{needs}
-use Rattle.machine.proofs.devices.state_on.Statement.{statement}
-use Rattle.machine.proofs.devices.state_on.Tie as tie
-use Rattle.machine.proofs.devices.state_on.Reads as reads
-use Rattle.machine.proofs.devices.state_on.Lts as lts
+use Rattle.devices.proofs.state_on.Statement.{statement}
+use Rattle.devices.proofs.state_on.Tie as tie
+use Rattle.devices.proofs.state_on.Reads as reads
+use Rattle.devices.proofs.state_on.Lts as lts
 
 returns : tie.Need-returns
 returns c = sym (state-past (c .before .args .t1) (c .before .args .device) (omega (arith, c .before .good .0 .1 .0 .1, c .if1 .taken)))

@@ -5,12 +5,12 @@ use mathlib.Core.Path.{_≡_, refl, sym, ap, _∙_}
 use mathlib.Core.Bool.{false}
 use Rattle.arith.specs.Bounded.{some, some-intro, some-none}
 use Rattle.rules.specs.Machine.{holds}
-use Rattle.machine.specs.Sound.{deviceIn}
-use Rattle.machine.proofs.devices.held_somewhere.Statement.{statement}
-use Rattle.machine.proofs.devices.held_somewhere.Tie as tie
-use Rattle.machine.proofs.devices.held_somewhere.Reads as reads
-use Rattle.machine.proofs.devices.held_somewhere.Lts as lts
-use Rattle.machine.proofs.devices.holds.Reads as holds-reads
+use Rattle.devices.specs.Arrays.{deviceIn}
+use Rattle.devices.proofs.held_somewhere.Statement.{statement}
+use Rattle.devices.proofs.held_somewhere.Tie as tie
+use Rattle.devices.proofs.held_somewhere.Reads as reads
+use Rattle.devices.proofs.held_somewhere.Lts as lts
+use Rattle.devices.proofs.holds.Reads as holds-reads
 
 abbrev Inv-loop : tie.InvT-loop
 Inv-loop area devices d₀ d = (d ≤ 4) × (some (λ k. holds area (deviceIn devices k)) d ≡ false)

@@ -1,13 +1,13 @@
-use Rattle.machine.specs.laws.DeviceLaws.{none-held}
+use Rattle.devices.specs.laws.DeviceLaws.{none-held}
 use mathlib.Core.Path.{sym, _∙_}
 use borrow.Author.Tests.{not-true}
 use borrow.Author.Needs.{needs}
-use Rattle.machine.proofs.devices.area_held.Statement.{statement}
-use Rattle.machine.proofs.devices.area_held.Tie as tie
-use Rattle.machine.proofs.devices.area_held.Reads as reads
-use Rattle.machine.proofs.devices.area_held.Lts as lts
-use Rattle.machine.proofs.devices.request_held.Reads as request-held-reads
-use Rattle.machine.proofs.devices.held_somewhere.Reads as held-somewhere-reads
+use Rattle.devices.proofs.area_held.Statement.{statement}
+use Rattle.devices.proofs.area_held.Tie as tie
+use Rattle.devices.proofs.area_held.Reads as reads
+use Rattle.devices.proofs.area_held.Lts as lts
+use Rattle.devices.proofs.request_held.Reads as request-held-reads
+use Rattle.devices.proofs.held_somewhere.Reads as held-somewhere-reads
 
 held-somewhere-requires : tie.Need-held-somewhere-requires
 held-somewhere-requires c κs = search needs

@@ -1,11 +1,11 @@
 use mathlib.Core.Path.{sym, _∙_}
 use native.Mathlib.Omega.{arith}
-use Rattle.machine.specs.laws.Arrays.{device-past}
+use Rattle.devices.specs.laws.ArrayLaws.{device-past}
 use borrow.Author.Needs.{needs}
-use Rattle.machine.proofs.devices.device_on.Statement.{statement}
-use Rattle.machine.proofs.devices.device_on.Tie as tie
-use Rattle.machine.proofs.devices.device_on.Reads as reads
-use Rattle.machine.proofs.devices.device_on.Lts as lts
+use Rattle.devices.proofs.device_on.Statement.{statement}
+use Rattle.devices.proofs.device_on.Tie as tie
+use Rattle.devices.proofs.device_on.Reads as reads
+use Rattle.devices.proofs.device_on.Lts as lts
 use Rattle.state.proofs.Device.free.Reads as free-reads
 
 free-requires : tie.Need-free-requires

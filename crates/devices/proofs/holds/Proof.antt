@@ -1,11 +1,11 @@
 use mathlib.Core.Path.{sym, _∙_}
 use borrow.Author.Needs.{needs}
-use Rattle.machine.proofs.devices.holds.Statement.{statement}
-use Rattle.machine.proofs.devices.holds.Tie as tie
-use Rattle.machine.proofs.devices.holds.Reads as reads
-use Rattle.machine.proofs.devices.holds.Lts as lts
-use Rattle.machine.proofs.devices.runs_for.Reads as runs-for-reads
-use Rattle.machine.proofs.devices.suspended_for.Reads as suspended-for-reads
+use Rattle.devices.proofs.holds.Statement.{statement}
+use Rattle.devices.proofs.holds.Tie as tie
+use Rattle.devices.proofs.holds.Reads as reads
+use Rattle.devices.proofs.holds.Lts as lts
+use Rattle.devices.proofs.runs_for.Reads as runs-for-reads
+use Rattle.devices.proofs.suspended_for.Reads as suspended-for-reads
 
 runs-for-requires : tie.Need-runs-for-requires
 runs-for-requires c κs = search needs

@@ -1,14 +1,14 @@
 use mathlib.Core.Bool.{true, false}
 use mathlib.Core.Path.{sym, _∙_}
 use Rattle.rules.specs.Layout.{layoutOf}
-use Rattle.machine.specs.laws.DeviceLaws.{cancel-job}
-use Rattle.machine.specs.Sound.{deviceIn}
+use Rattle.devices.specs.laws.DeviceLaws.{cancel-job}
+use Rattle.devices.specs.Arrays.{deviceIn}
 use borrow.Author.Needs.{needs}
-use Rattle.machine.proofs.devices.cancelled_job.Statement.{statement}
-use Rattle.machine.proofs.devices.cancelled_job.Tie as tie
-use Rattle.machine.proofs.devices.cancelled_job.Reads as reads
-use Rattle.machine.proofs.devices.cancelled_job.Lts as lts
-use Rattle.machine.proofs.devices.area_held.Reads as area-held-reads
+use Rattle.devices.proofs.cancelled_job.Statement.{statement}
+use Rattle.devices.proofs.cancelled_job.Tie as tie
+use Rattle.devices.proofs.cancelled_job.Reads as reads
+use Rattle.devices.proofs.cancelled_job.Lts as lts
+use Rattle.devices.proofs.area_held.Reads as area-held-reads
 use Rattle.jobs.proofs.cancelled.Reads as cancelled-reads
 use Rattle.jobs.proofs.ended.Reads as ended-reads
 

@@ -1,4 +1,4 @@
--- The manager's arrays as the maps that the rules see.
+-- The manager's arrays as maps: an entry that is set, and past the end.
 use Prim.Native.Nat.{ℕ, _≤_, _<_}
 use mathlib.Core.List.{List}
 use mathlib.Core.Path.{_≡_, sym, ap, fun-ext}
@@ -9,7 +9,7 @@ use Rattle.state.specs.Fresh.{noJob, freshArea, freeDevice}
 use Rattle.state.specs.declared.Area.{Area}
 use Rattle.state.specs.declared.Device.{Device}
 use Rattle.state.specs.declared.DeviceState.the-variants.{Free}
-use Rattle.machine.specs.Sound.{jobIn, deviceIn, stateIn}
+use Rattle.devices.specs.Arrays.{jobIn, deviceIn, stateIn}
 
 -- a view of a list with one entry set is the view with that place changed
 pub view-set : {A B : Type 0} (f : A → B) (l : List A) (z : A) (a : ℕ) (x : A) → a < length l → (b : ℕ) →

@@ -1,11 +1,11 @@
 use mathlib.Core.Path.{sym, ap, _∙_}
 use Rattle.rules.specs.Admission.{holdsLock}
 use borrow.Author.Needs.{needs}
-use Rattle.machine.proofs.devices.holds_lock.Statement.{statement}
-use Rattle.machine.proofs.devices.holds_lock.Tie as tie
-use Rattle.machine.proofs.devices.holds_lock.Reads as reads
-use Rattle.machine.proofs.devices.holds_lock.Lts as lts
-use Rattle.machine.proofs.devices.state_on.Reads as state-on-reads
+use Rattle.devices.proofs.holds_lock.Statement.{statement}
+use Rattle.devices.proofs.holds_lock.Tie as tie
+use Rattle.devices.proofs.holds_lock.Reads as reads
+use Rattle.devices.proofs.holds_lock.Lts as lts
+use Rattle.devices.proofs.state_on.Reads as state-on-reads
 
 state-on-requires : tie.Need-state-on-requires
 state-on-requires c κs = search needs

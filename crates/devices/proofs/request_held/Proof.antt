@@ -1,12 +1,12 @@
 use mathlib.Core.Path.{_∙_}
-use Rattle.machine.specs.laws.DeviceLaws.{area-held}
+use Rattle.devices.specs.laws.DeviceLaws.{area-held}
 use borrow.Author.Needs.{needs}
-use Rattle.machine.proofs.devices.request_held.Statement.{statement}
-use Rattle.machine.proofs.devices.request_held.Tie as tie
-use Rattle.machine.proofs.devices.request_held.Reads as reads
-use Rattle.machine.proofs.devices.request_held.Lts as lts
-use Rattle.machine.proofs.devices.holds.Reads as holds-reads
-use Rattle.machine.proofs.devices.device_on.Reads as device-on-reads
+use Rattle.devices.proofs.request_held.Statement.{statement}
+use Rattle.devices.proofs.request_held.Tie as tie
+use Rattle.devices.proofs.request_held.Reads as reads
+use Rattle.devices.proofs.request_held.Lts as lts
+use Rattle.devices.proofs.holds.Reads as holds-reads
+use Rattle.devices.proofs.device_on.Reads as device-on-reads
 use Rattle.segment.proofs.segment_at.Reads as segment-at-reads
 
 segment-at-requires : tie.Need-segment-at-requires

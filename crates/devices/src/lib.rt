@@ -5,7 +5,7 @@ ghost use Rattle.arith.specs.Bounded.{some};
 ghost use Rattle.rules.specs.Layout.{layoutOf};
 ghost use Rattle.rules.specs.Admission.{holdsLock};
 ghost use Rattle.rules.specs.Machine.{need, runsFor, keptFor, holds, cancel};
-ghost use Rattle.machine.specs.Sound.{deviceIn, stateIn};
+ghost use Rattle.devices.specs.Arrays.{deviceIn, stateIn};
 use jobs::cancelled;
 use jobs::ended;
 use memory::JobResult;

@@ -17,8 +17,8 @@ use Rattle.segment.specs.Segments.{segmentAt}
 use Rattle.segment.specs.declared.Segment.{Segment}
 use Rattle.state.specs.declared.Device.{Device}
 use Rattle.state.specs.declared.Job.{Job}
-use Rattle.machine.specs.laws.Arrays.{device-past, state-past}
-use Rattle.machine.specs.Sound.{deviceIn, stateIn}
+use Rattle.devices.specs.laws.ArrayLaws.{device-past, state-past}
+use Rattle.devices.specs.Arrays.{deviceIn, stateIn}
 
 -- a lock is held on a device that the manager has
 pub lock-known : (devices : List Device) (d a n : ℕ) → length devices ≡ n → holdsLock a (stateIn devices d) ≡ true → d < n
