@@ -3,7 +3,6 @@
 use Prim.Native.Nat.{ℕ}
 use mathlib.Core.Bool.{Bool}
 use mathlib.Core.List.{List, _∷_}
-use lib.Dec.{eqb}
 use lib.ListN.{set}
 use Rattle.arith.specs.Cases.{pick}
 use Rattle.arith.specs.FirstNo.{firstNo}
@@ -16,6 +15,8 @@ use Rattle.memory.specs.declared.JobResult.{JobResult}
 use Rattle.memory.specs.declared.LogicalAddress.{LogicalAddress}
 use Rattle.memory.specs.declared.Task.{Task}
 use Rattle.plan.specs.declared.records.Plan.{Plan}
+use Rattle.changes.specs.Accepted.{ifAccepted}
+use Rattle.changes.specs.declared.Change.{Change}
 use Rattle.close.specs.Close.{waitsIn, areasAfter, devicesAfter, halvesOf}
 use Rattle.rules.specs.Admission.{rangeDevice, jobQuestions, releaseQuestions, cancelQuestions, infoQuestions, memoryInfoQuestions, roundNumber}
 use Rattle.rules.specs.Layout.{Layout, layoutOf, layoutAt}
@@ -32,7 +33,6 @@ use Rattle.state.specs.declared.JobInfo.{JobInfo}
 use Rattle.state.specs.declared.MemoryInfo.{MemoryInfo}
 use Rattle.state.specs.declared.Waits.{Waits}
 use Rattle.manager.specs.declared.Manager.{Manager}
-use Rattle.manager.specs.declared.changes.Change.{Change}
 
 -- jobs and devices, as the rules see them
 abbrev pub coreOf : Manager → Core
@@ -45,10 +45,6 @@ rankedOf m = layoutAt (m .plan) (ageIn (m .ages))
 -- question 9, then those of the call: "The first 'no' gives its number."
 abbrev pub soundNumber : Manager → List Bool → ℕ
 soundNumber m questions = firstNo 9 (isSound (m .plan) (m .areas) (m .devices) ∷ questions)
-
--- "any other refusal returns the number and the manager given", "other answer fields 0": the first where the number is 0
-abbrev pub ifAccepted : {A : Type 0} → ℕ → A → A → A
-ifAccepted n accepted refused = pick (eqb n 0) accepted refused
 
 abbrev pub withArea : ℕ → Job → Waits → Manager → Manager
 withArea a j w m =

@@ -10,14 +10,14 @@ ghost use Rattle.devices.specs.Arrays.{jobIn};
 ghost use Rattle.effects.specs.Effects.{memoryOf};
 ghost use Rattle.manager.specs.Load.{freshManager, loadedManager};
 
-pub mod changes;
+pub mod in_place;
 
-use crate::changes::Change;
-use crate::changes::ask;
-use crate::changes::begin;
-use crate::changes::release_change;
-use crate::changes::round_change;
-use crate::changes::stop;
+use crate::in_place::release_change;
+use crate::in_place::round_change;
+use changes::Change;
+use changes::ask;
+use changes::begin;
+use changes::stop;
 use loading::load_plan;
 use machine::soundness::is_sound;
 use memory::Admission;

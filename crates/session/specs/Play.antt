@@ -7,7 +7,8 @@ use Rattle.lines.specs.declared.Line.the-variants.{Unreadable, Call, Info, Roun
 use Rattle.lines.specs.declared.LineCall.{LineCall}
 use Rattle.lines.specs.declared.LineCall.the-variants as Calls
 use Rattle.lines.specs.declared.Target.{Target}
-use Rattle.manager.specs.Calls.{coreOf, ifAccepted, jobNumberOf, afterJob, releaseNumberOf, afterRelease, cancelNumberOf, afterCancel, infoNumberOf, infoOf, roundNumberOf, afterRound, memoryAfterRound}
+use Rattle.changes.specs.Accepted.{ifAccepted}
+use Rattle.manager.specs.Calls.{coreOf, jobNumberOf, afterJob, releaseNumberOf, afterRelease, cancelNumberOf, afterCancel, infoNumberOf, infoOf, roundNumberOf, afterRound, memoryAfterRound}
 use Rattle.manager.specs.declared.Manager.{Manager}
 use Rattle.memory.specs.declared.DeviceAnswer.{DeviceAnswer}
 use Rattle.memory.specs.declared.JobType.{JobType}

@@ -12,7 +12,7 @@ use lines::Line;
 use lines::line_of;
 use lines::part_end;
 use manager::Manager;
-use manager::changes::round_change;
+use manager::in_place::round_change;
 use manager::info_of;
 use texts::question_line;
 

@@ -8,11 +8,10 @@ use lib.ListN.{length}
 use Rattle.arith.specs.Bounded.{some, some-intro}
 use Rattle.arith.specs.Cases.{pick, by-bool, by-leb}
 use Rattle.arith.specs.Parts.{upd-same}
-use Rattle.memory.specs.declared.Task.{Task}
 use Rattle.plan.specs.declared.records.Plan.{Plan}
 use Rattle.rules.specs.Admission.{holdsLock}
 use Rattle.rules.specs.Layout.{Layout, layoutOf}
-use Rattle.rules.specs.Machine.{Core, need, begunWith, begun, cancelled, ended, holds, cancel}
+use Rattle.rules.specs.Machine.{Core, need, cancelled, ended, holds, cancel}
 use Rattle.segment.specs.Segments.{segmentAt}
 use Rattle.segment.specs.declared.Segment.{Segment}
 use Rattle.state.specs.declared.Device.{Device}
@@ -38,11 +37,6 @@ module _ (p : Plan) (j : Job) (devices : List Device) (a : ℕ) (s : Segment) (i
   pub area-held : (x : Device) → x ≡ deviceIn devices (s .device) → holds a x ≡ holds a (deviceIn devices (need (layoutOf p) a j))
   unfolding layoutOf
   area-held x here = ap (holds a) here ∙ ap (λ t. holds a (deviceIn devices (t .device))) is
-
--- the job of an accepted task, whose first segment may take r retries
-pub begun-first : (p : Plan) (a : ℕ) (t : Task) (j : Job) (r : ℕ) → r ≡ segmentAt p a t 0 .retries → begunWith r t j ≡ begun (layoutOf p) a t j
-unfolding layoutOf
-begun-first p a t j r is = ap (λ k. begunWith k t j) is
 
 -- the job of a cancelled area. Test: does its device hold its request?
 pub cancel-job : (p : Layout) (a : ℕ) (c : Core) (t : Bool) → t ≡ holds a (c .devices (need p a (c .jobs a))) →

@@ -2,7 +2,8 @@ use mathlib.Core.Path.{sym, ap, _∙_}
 use mathlib.Core.List.{[]}
 use Rattle.memory.specs.Numbers.{admissionNumber}
 use Rattle.manager.specs.Calls.{managerOf}
-use Rattle.manager.specs.laws.CallLaws.{refused-some, info-number, info-few, info-refused, info-accepted}
+use Rattle.changes.specs.laws.Changes.{refused-some}
+use Rattle.manager.specs.laws.CallLaws.{info-number, info-few, info-refused, info-accepted}
 use borrow.Author.Needs.{needs}
 use Rattle.manager.proofs.info_of.Statement.{statement}
 use Rattle.manager.proofs.info_of.Tie as tie

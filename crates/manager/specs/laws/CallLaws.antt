@@ -9,16 +9,12 @@ use mathlib.Core.Bool.{Bool, false, true}
 use mathlib.Core.List.{List, _∷_}
 use mathlib.Core.Path.{_≡_, sym, ap, _∙_}
 use native.Mathlib.Omega.{arith}
-use borrow.Author.Tests.{ltb-true, eq-eqb, ne-eqb}
+use borrow.Author.Tests.{ltb-true, eq-eqb}
 use lib.Dec.{eqb}
 use lib.ListN.{length}
 use Rattle.arith.specs.FirstNo.{firstNo, none-elim}
 use Rattle.arith.specs.Parts.{upd-same}
-use Rattle.memory.specs.Numbers.{jobTypeNumber, statusNumber, admissionNumber}
-use Rattle.memory.specs.laws.NumberLaws.{refusal-some}
-use Rattle.memory.specs.declared.Admission.{Admission}
-use Rattle.memory.specs.declared.Admission.the-variants.{Refused}
-use Rattle.memory.specs.declared.Refusal.{Refusal}
+use Rattle.memory.specs.Numbers.{jobTypeNumber, statusNumber}
 use Rattle.memory.specs.declared.LogicalAddress.{LogicalAddress}
 use Rattle.memory.specs.declared.Task.{Task}
 use Rattle.devices.specs.laws.DeviceLaws.{lock-known}
@@ -36,10 +32,6 @@ use Rattle.state.specs.declared.Job.{Job}
 use Rattle.state.specs.declared.JobInfo.{JobInfo}
 use Rattle.manager.specs.Calls.{coreOf, rankedOf, soundNumber, withArea, withDevice, jobNumberOf, afterJob, releaseNumberOf, afterRelease, cancelNumberOf, afterCancel, infoNumberOf, statusOf, resultOf, processedOf, noJobInfo, infoOf, jobTypeOf, memoryInfoNumberOf, memoryOfArea, roundNumberOf, afterRound, memoryAfterRound}
 use Rattle.manager.specs.declared.Manager.{Manager}
-
--- a call that is refused, with that number
-pub refused-some : (x : Admission) (q : Refusal) → x ≡ Refused q → (n : ℕ) → admissionNumber x ≡ n → eqb n 0 ≡ false
-refused-some x q e n f = ne-eqb n 0 (λ z. omega (arith, refusal-some q, ap admissionNumber e, f, z))
 
 -- the number n of each call, with the answer to question 9
 module _ (m : Manager) (a : ℕ) (sound : Bool) (is : sound ≡ isSound (m .plan) (m .areas) (m .devices)) (n : ℕ) where

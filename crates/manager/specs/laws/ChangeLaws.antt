@@ -4,17 +4,19 @@ use mathlib.Core.Bool.{Bool, true, false, not, true≢false}
 use mathlib.Core.List.{List, [], _∷_}
 use mathlib.Core.Path.{_≡_, refl, sym, ap, _∙_}
 use native.Mathlib.Omega.{arith}
-use borrow.Author.Tests.{eq-eqb, ltb-true, lt-leb}
-use lib.Dec.{eqb, leb}
+use borrow.Author.Tests.{ltb-true, lt-leb}
+use lib.Dec.{eqb}
 use lib.ListN.{getD, set}
 use lib.Seq.{set-getD}
 use Rattle.arith.specs.Cases.{pick, by-bool}
 use Rattle.arith.specs.FirstNo.{firstNo, none-elim}
 use Rattle.arith.specs.Parts.{upd-same}
 use Rattle.arith.specs.Tables.{table}
+use Rattle.changes.specs.declared.Change.{Change}
+use Rattle.changes.specs.laws.Changes.{placeOf, askedArea, unchanged, begunChange, stoppedChange, refused-some}
 use Rattle.devices.specs.Arrays.{jobIn, deviceIn}
 use Rattle.machine.specs.Sound.{isSound}
-use Rattle.devices.specs.laws.DeviceLaws.{begun-first, cancel-alone}
+use Rattle.devices.specs.laws.DeviceLaws.{cancel-alone}
 use Rattle.machine.specs.laws.SoundCases.{sound-few}
 use Rattle.memory.specs.Numbers.{admissionNumber}
 use Rattle.memory.specs.declared.Admission.{Admission}
@@ -25,71 +27,16 @@ use Rattle.memory.specs.declared.Task.{Task}
 use Rattle.plan.specs.declared.records.Plan.{Plan}
 use Rattle.rules.specs.Admission.{skip, isKnown, rangeDevice, rangeQuestions, jobQuestions, cancelQuestions}
 use Rattle.rules.specs.Layout.{layoutOf}
-use Rattle.rules.specs.Machine.{isPending, doing, begunWith, begun, begin, cancel}
+use Rattle.rules.specs.Machine.{isPending, doing, begun, begin}
 use Rattle.rules.specs.Ranks.{agesAfter}
-use Rattle.segment.specs.Segments.{segmentAt}
 use Rattle.state.specs.Ages.{ageIn}
 use Rattle.state.specs.Fresh.{noWaits, freshArea, freeDevice}
 use Rattle.state.specs.declared.Area.{Area}
 use Rattle.state.specs.declared.Device.{Device}
 use Rattle.state.specs.declared.DeviceState.the-variants.{Free}
 use Rattle.state.specs.declared.Job.{Job}
-use Rattle.state.specs.declared.Waits.{Waits}
-use Rattle.manager.specs.Calls.{coreOf, ifAccepted, managerOf, changed, jobNumberOf, afterJob, releaseNumberOf, afterRelease, cancelNumberOf, afterCancel}
-use Rattle.manager.specs.declared.changes.AskedArea.{AskedArea}
-use Rattle.manager.specs.declared.changes.Change.{Change}
-use Rattle.manager.specs.laws.CallLaws.{refused-some, job-refused, cancel-refused, cancel-accepted, release-accepted}
-
--- where an area's entry is, or any
-abbrev pub placeOf : ℕ → ℕ
-placeOf a = pick (leb 8 a) 0 a
-
-abbrev pub askedArea : Plan → List Area → List Device → ℕ → AskedArea
-askedArea p areas devices a = record { sound = isSound p areas devices; number = placeOf a; area = getD areas (placeOf a) freshArea }
-
-abbrev pub unchanged : List Area → List Device → List ℕ → Admission → Change
-unchanged areas devices ages x =
-    record { «area_number» = 0; area = getD areas 0 freshArea; «device_number» = 0; device = getD devices 0 freeDevice; ages = ages; answer = x }
-
--- a job of the range's answer x
-abbrev pub begunChange : Admission → Plan → AskedArea → Device → List ℕ → Task → Change
-begunChange x p asked d ages t =
-    record {
-      «area_number» = asked .number;
-      area = ifAccepted (admissionNumber x) (record { job = begun (layoutOf p) (asked .number) t (asked .area .job); waits = noWaits }) (asked .area);
-      «device_number» = 0;
-      device = d;
-      ages = ifAccepted (admissionNumber x) (table 8 (agesAfter (asked .number) (ageIn ages)) 0 8) ages;
-      answer = x;
-    }
-
--- the job of a cancelled area, from that job alone
-abbrev pub stoppedJob : Plan → ℕ → Job → List Device → Job
-stoppedJob p a j devices = cancel (layoutOf p) a (record { jobs = λ _. j; devices = deviceIn devices }) .jobs a
-
-abbrev pub stoppedChange : Plan → AskedArea → List Device → List ℕ → Change
-stoppedChange p asked devices ages =
-    record {
-      «area_number» = asked .number;
-      area = record { job = stoppedJob p (asked .number) (asked .area .job) devices; waits = asked .area .waits };
-      «device_number» = 0;
-      device = getD devices 0 freeDevice;
-      ages = ages;
-      answer = Accepted;
-    }
-
--- what the range's answer makes of the area
-module _ (x : Admission) where
-  pub begun-refused : (q : Refusal) → x ≡ Refused q → (p : Plan) (asked : AskedArea) (d : Device) (ages : List ℕ) (t : Task) →
-      record { «area_number» = asked .number; area = asked .area; «device_number» = 0; device = d; ages = ages; answer = x } ≡ begunChange x p asked d ages t
-  begun-refused q e p asked d ages t = rw (refused-some x q e (admissionNumber x) refl)
-
-  pub begun-accepted : x ≡ Accepted → (p : Plan) (asked : AskedArea) (d : Device) (ages : List ℕ) (t : Task) (j : Job) (r : ℕ) (w : Waits) (g : List ℕ) →
-      j ≡ begunWith r t (asked .area .job) → r ≡ segmentAt p (asked .number) t 0 .retries → w ≡ noWaits → g ≡ table 8 (agesAfter (asked .number) (ageIn ages)) 0 8 →
-      record { «area_number» = asked .number; area = record { job = j; waits = w }; «device_number» = 0; device = d; ages = g; answer = x } ≡ begunChange x p asked d ages t
-  begun-accepted e p asked d ages t j r w g is first none next =
-      let job = is ∙ begun-first p (asked .number) t (asked .area .job) r first in
-      rw (eq-eqb (admissionNumber x) 0 (ap admissionNumber e)) (λ i. record { «area_number» = asked .number; area = record { job = job i; waits = none i }; «device_number» = 0; device = d; ages = next i; answer = x })
+use Rattle.manager.specs.Calls.{coreOf, managerOf, changed, jobNumberOf, afterJob, releaseNumberOf, afterRelease, cancelNumberOf, afterCancel}
+use Rattle.manager.specs.laws.CallLaws.{job-refused, cancel-refused, cancel-accepted, release-accepted}
 
 -- the first three questions alone
 three : (s k i : Bool) (qs : List Bool) → eqb (firstNo 9 (s ∷ k ∷ i ∷ [])) 0 ≡ false → firstNo 9 (s ∷ k ∷ i ∷ []) ≡ firstNo 9 (s ∷ k ∷ i ∷ qs)

@@ -8,7 +8,8 @@ use borrow.Author.Tests.{eq-eqb, ne-eqb}
 use Rattle.arith.specs.Cases.{by-bool}
 use Rattle.machine.specs.Sound.{isSound}
 use Rattle.machine.specs.laws.SoundCases.{sound-counts}
-use Rattle.manager.specs.Calls.{ifAccepted, roundNumberOf, afterRound}
+use Rattle.changes.specs.Accepted.{ifAccepted}
+use Rattle.manager.specs.Calls.{roundNumberOf, afterRound}
 use Rattle.manager.specs.declared.Manager.{Manager}
 use Rattle.memory.specs.declared.DeviceAnswer.{DeviceAnswer}
 use Rattle.rules.specs.Memory.{Memory}

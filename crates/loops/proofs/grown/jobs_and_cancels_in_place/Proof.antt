@@ -13,8 +13,8 @@ use Rattle.loops.proofs.grown.jobs_and_cancels_in_place.Tie as tie
 use Rattle.loops.proofs.grown.jobs_and_cancels_in_place.Reads as reads
 use Rattle.loops.proofs.grown.jobs_and_cancels_in_place.Lts as lts
 use Rattle.manager.proofs.Manager.load.Reads as load-reads
-use Rattle.manager.proofs.changes.cancel_change.Reads as cancel-change-reads
-use Rattle.manager.proofs.changes.job_change.Reads as job-change-reads
+use Rattle.manager.proofs.in_place.cancel_change.Reads as cancel-change-reads
+use Rattle.manager.proofs.in_place.job_change.Reads as job-change-reads
 use Rattle.memory.proofs.Admission.number.Reads as number-reads
 use Rattle.loops.proofs.grown.Grown.of.Reads as of-reads
 use Rattle.loops.proofs.grown.rest_of.Reads as rest-of-reads

@@ -8,7 +8,7 @@ use Rattle.loops.proofs.in_place.cancels.Tie as tie
 use Rattle.loops.proofs.in_place.cancels.Reads as reads
 use Rattle.loops.proofs.in_place.cancels.Lts as lts
 use Rattle.manager.proofs.Manager.load.Reads as load-reads
-use Rattle.manager.proofs.changes.cancel_change.Reads as cancel-change-reads
+use Rattle.manager.proofs.in_place.cancel_change.Reads as cancel-change-reads
 use Rattle.memory.proofs.Admission.number.Reads as number-reads
 
 abbrev Inv-loop : tie.InvT-loop

@@ -9,7 +9,7 @@ use Rattle.loops.proofs.in_place.jobs.Tie as tie
 use Rattle.loops.proofs.in_place.jobs.Reads as reads
 use Rattle.loops.proofs.in_place.jobs.Lts as lts
 use Rattle.manager.proofs.Manager.load.Reads as load-reads
-use Rattle.manager.proofs.changes.job_change.Reads as job-change-reads
+use Rattle.manager.proofs.in_place.job_change.Reads as job-change-reads
 use Rattle.memory.proofs.Admission.number.Reads as number-reads
 use Rattle.loops.proofs.in_place.task_of.Reads as task-of-reads
 

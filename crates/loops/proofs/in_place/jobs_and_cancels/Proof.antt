@@ -11,8 +11,8 @@ use Rattle.loops.proofs.in_place.jobs_and_cancels.Tie as tie
 use Rattle.loops.proofs.in_place.jobs_and_cancels.Reads as reads
 use Rattle.loops.proofs.in_place.jobs_and_cancels.Lts as lts
 use Rattle.manager.proofs.Manager.load.Reads as load-reads
-use Rattle.manager.proofs.changes.cancel_change.Reads as cancel-change-reads
-use Rattle.manager.proofs.changes.job_change.Reads as job-change-reads
+use Rattle.manager.proofs.in_place.cancel_change.Reads as cancel-change-reads
+use Rattle.manager.proofs.in_place.job_change.Reads as job-change-reads
 use Rattle.memory.proofs.Admission.number.Reads as number-reads
 use Rattle.loops.proofs.in_place.task_of.Reads as task-of-reads
 

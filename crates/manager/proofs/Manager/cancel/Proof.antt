@@ -4,7 +4,8 @@ use native.Mathlib.Omega.{arith}
 use Rattle.arith.specs.FirstNo.{firstNo}
 use Rattle.rules.specs.Admission.{skip, isKnown}
 use Rattle.rules.specs.Machine.{isPending}
-use Rattle.manager.specs.laws.ChangeLaws.{stoppedChange, cancel-none, cancel-asked, cancel-stopped}
+use Rattle.changes.specs.laws.Changes.{stoppedChange}
+use Rattle.manager.specs.laws.ChangeLaws.{cancel-none, cancel-asked, cancel-stopped}
 use borrow.Author.Needs.{needs}
 use Rattle.manager.proofs.Manager.cancel.Statement.{statement}
 use Rattle.manager.proofs.Manager.cancel.Tie as tie
@@ -12,8 +13,8 @@ use Rattle.manager.proofs.Manager.cancel.Reads as reads
 use Rattle.manager.proofs.Manager.cancel.Lts as lts
 use Rattle.questions.proofs.cancel_admission.Reads as cancel-admission-reads
 use Rattle.manager.proofs.Manager.with.Reads as with-reads
-use Rattle.manager.proofs.changes.ask.Reads as ask-reads
-use Rattle.manager.proofs.changes.stop.Reads as stop-reads
+use Rattle.changes.proofs.ask.Reads as ask-reads
+use Rattle.changes.proofs.stop.Reads as stop-reads
 
 ask-requires : tie.Need-ask-requires
 ask-requires c κs = search needs

@@ -1,7 +1,7 @@
 use mathlib.Core.Path.{sym, ap, _∙_}
 use borrow.Author.Tests.{eq-eqb}
 use lib.ListN.{replicate}
-use Rattle.manager.specs.laws.CallLaws.{refused-some}
+use Rattle.changes.specs.laws.Changes.{refused-some}
 use Rattle.manager.specs.Load.{freshManager}
 use Rattle.manager.specs.laws.LoadLaws.{accepted-loaded, refused-loaded}
 use Rattle.memory.specs.Numbers.{admissionNumber}

@@ -1,4 +1,5 @@
-use Rattle.manager.specs.laws.CallLaws.{refused-some, memory-number, memory-few, memory-refused, memory-accepted}
+use Rattle.changes.specs.laws.Changes.{refused-some}
+use Rattle.manager.specs.laws.CallLaws.{memory-number, memory-few, memory-refused, memory-accepted}
 use Rattle.machine.specs.laws.SoundCases.{sound-few}
 use Rattle.memory.specs.Numbers.{admissionNumber}
 use mathlib.Core.Path.{sym, ap, _∙_}

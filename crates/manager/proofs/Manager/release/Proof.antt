@@ -4,7 +4,7 @@ use Rattle.manager.proofs.Manager.release.Tie as tie
 use Rattle.manager.proofs.Manager.release.Reads as reads
 use Rattle.manager.proofs.Manager.release.Lts as lts
 use Rattle.manager.proofs.Manager.with.Reads as with-reads
-use Rattle.manager.proofs.changes.release_change.Reads as release-change-reads
+use Rattle.manager.proofs.in_place.release_change.Reads as release-change-reads
 
 release-change-requires : tie.Need-release-change-requires
 release-change-requires c κs = search needs

@@ -1,6 +1,7 @@
 use mathlib.Core.Path.{sym, ap, _∙_}
 use Rattle.memory.specs.Numbers.{admissionNumber}
-use Rattle.manager.specs.laws.CallLaws.{refused-some, info-few, result-refused, result-accepted}
+use Rattle.changes.specs.laws.Changes.{refused-some}
+use Rattle.manager.specs.laws.CallLaws.{info-few, result-refused, result-accepted}
 use borrow.Author.Needs.{needs}
 use Rattle.manager.proofs.Manager.result.Statement.{statement}
 use Rattle.manager.proofs.Manager.result.Tie as tie

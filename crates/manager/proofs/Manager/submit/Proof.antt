@@ -7,7 +7,8 @@ use Rattle.arith.specs.FirstNo.{firstNo}
 use Rattle.rules.specs.Admission.{isKnown, rangeQuestions}
 use Rattle.rules.specs.Machine.{isPending}
 use Rattle.state.specs.Fresh.{freeDevice}
-use Rattle.manager.specs.laws.ChangeLaws.{begunChange, job-none, job-asked, job-begun}
+use Rattle.changes.specs.laws.Changes.{begunChange}
+use Rattle.manager.specs.laws.ChangeLaws.{job-none, job-asked, job-begun}
 use borrow.Author.Needs.{needs}
 use Rattle.manager.proofs.Manager.submit.Statement.{statement}
 use Rattle.manager.proofs.Manager.submit.Tie as tie
@@ -15,8 +16,8 @@ use Rattle.manager.proofs.Manager.submit.Reads as reads
 use Rattle.manager.proofs.Manager.submit.Lts as lts
 use Rattle.questions.proofs.idle_admission.Reads as idle-admission-reads
 use Rattle.manager.proofs.Manager.with.Reads as with-reads
-use Rattle.manager.proofs.changes.ask.Reads as ask-reads
-use Rattle.manager.proofs.changes.begin.Reads as begin-reads
+use Rattle.changes.proofs.ask.Reads as ask-reads
+use Rattle.changes.proofs.begin.Reads as begin-reads
 
 ask-requires : tie.Need-ask-requires
 ask-requires c κs = search needs

@@ -18,7 +18,7 @@ use Rattle.session.proofs.fold.play_lines.Reads as reads
 use Rattle.session.proofs.fold.play_lines.Lts as lts
 use Rattle.lines.proofs.line_of.Reads as line-of-reads
 use Rattle.lines.proofs.part_end.Reads as part-end-reads
-use Rattle.manager.proofs.changes.round_change.Reads as round-change-reads
+use Rattle.manager.proofs.in_place.round_change.Reads as round-change-reads
 use Rattle.manager.proofs.info_of.Reads as info-of-reads
 use Rattle.session.proofs.fold.is_line.Reads as is-line-reads
 use Rattle.session.proofs.play.make.Reads as make-reads

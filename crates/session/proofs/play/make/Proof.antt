@@ -5,9 +5,9 @@ use Rattle.session.proofs.play.make.Statement.{statement}
 use Rattle.session.proofs.play.make.Tie as tie
 use Rattle.session.proofs.play.make.Reads as reads
 use Rattle.session.proofs.play.make.Lts as lts
-use Rattle.manager.proofs.changes.cancel_change.Reads as cancel-change-reads
-use Rattle.manager.proofs.changes.job_change.Reads as job-change-reads
-use Rattle.manager.proofs.changes.release_change.Reads as release-change-reads
+use Rattle.manager.proofs.in_place.cancel_change.Reads as cancel-change-reads
+use Rattle.manager.proofs.in_place.job_change.Reads as job-change-reads
+use Rattle.manager.proofs.in_place.release_change.Reads as release-change-reads
 use Rattle.session.proofs.play.plain_of.Reads as plain-of-reads
 
 plain-of-requires : tie.Need-plain-of-requires

@@ -4,7 +4,7 @@ use Rattle.loops.proofs.grown.Grown.round.Statement.{statement}
 use Rattle.loops.proofs.grown.Grown.round.Tie as tie
 use Rattle.loops.proofs.grown.Grown.round.Reads as reads
 use Rattle.loops.proofs.grown.Grown.round.Lts as lts
-use Rattle.manager.proofs.changes.round_change.Reads as round-change-reads
+use Rattle.manager.proofs.in_place.round_change.Reads as round-change-reads
 
 round-change-requires : tie.Need-round-change-requires
 round-change-requires c κs = search needs

@@ -1,9 +1,9 @@
 use native.Mathlib.Omega.{arith}
 use borrow.Author.Tests.{le-leb, lt-leb}
-use Rattle.manager.proofs.changes.place.Statement.{statement}
-use Rattle.manager.proofs.changes.place.Tie as tie
-use Rattle.manager.proofs.changes.place.Reads as reads
-use Rattle.manager.proofs.changes.place.Lts as lts
+use Rattle.changes.proofs.place.Statement.{statement}
+use Rattle.changes.proofs.place.Tie as tie
+use Rattle.changes.proofs.place.Reads as reads
+use Rattle.changes.proofs.place.Lts as lts
 
 returns : tie.Need-returns
 returns c = (rw (le-leb 8 (c .before .args .area) (c .if1 .taken)), omega arith)

@@ -2,12 +2,13 @@ use mathlib.Core.Path.{sym, ap, _∙_}
 use Rattle.memory.specs.Numbers.{admissionNumber}
 use Rattle.effects.specs.Effects.{memoryOf}
 use Rattle.manager.specs.Calls.{managerOf, roundNumberOf}
-use Rattle.manager.specs.laws.CallLaws.{refused-some, round-asked, round-refused, round-accepted, round-memory-refused, round-memory-accepted}
+use Rattle.changes.specs.laws.Changes.{refused-some}
+use Rattle.manager.specs.laws.CallLaws.{round-asked, round-refused, round-accepted, round-memory-refused, round-memory-accepted}
 use borrow.Author.Needs.{needs}
-use Rattle.manager.proofs.changes.round_change.Statement.{statement}
-use Rattle.manager.proofs.changes.round_change.Tie as tie
-use Rattle.manager.proofs.changes.round_change.Reads as reads
-use Rattle.manager.proofs.changes.round_change.Lts as lts
+use Rattle.manager.proofs.in_place.round_change.Statement.{statement}
+use Rattle.manager.proofs.in_place.round_change.Tie as tie
+use Rattle.manager.proofs.in_place.round_change.Reads as reads
+use Rattle.manager.proofs.in_place.round_change.Lts as lts
 use Rattle.questions.proofs.round_admission.Reads as round-admission-reads
 use Rattle.rounds.proofs.halves.run_round.Reads as run-round-reads
 

@@ -4,16 +4,17 @@ use native.Mathlib.Omega.{arith}
 use Rattle.arith.specs.FirstNo.{firstNo}
 use Rattle.rules.specs.Admission.{skip, isKnown}
 use Rattle.rules.specs.Machine.{isPending}
-use Rattle.manager.specs.laws.ChangeLaws.{stoppedChange, kept, cancel-none, cancel-asked, cancel-stopped}
+use Rattle.changes.specs.laws.Changes.{stoppedChange}
+use Rattle.manager.specs.laws.ChangeLaws.{kept, cancel-none, cancel-asked, cancel-stopped}
 use borrow.Author.Needs.{needs}
-use Rattle.manager.proofs.changes.cancel_change.Statement.{statement}
-use Rattle.manager.proofs.changes.cancel_change.Tie as tie
-use Rattle.manager.proofs.changes.cancel_change.Reads as reads
-use Rattle.manager.proofs.changes.cancel_change.Lts as lts
+use Rattle.manager.proofs.in_place.cancel_change.Statement.{statement}
+use Rattle.manager.proofs.in_place.cancel_change.Tie as tie
+use Rattle.manager.proofs.in_place.cancel_change.Reads as reads
+use Rattle.manager.proofs.in_place.cancel_change.Lts as lts
 use Rattle.questions.proofs.cancel_admission.Reads as cancel-admission-reads
-use Rattle.manager.proofs.changes.Change.none.Reads as none-reads
-use Rattle.manager.proofs.changes.ask.Reads as ask-reads
-use Rattle.manager.proofs.changes.stop.Reads as stop-reads
+use Rattle.changes.proofs.Change.none.Reads as none-reads
+use Rattle.changes.proofs.ask.Reads as ask-reads
+use Rattle.changes.proofs.stop.Reads as stop-reads
 
 ask-requires : tie.Need-ask-requires
 ask-requires c κs = search needs

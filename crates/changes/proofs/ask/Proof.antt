@@ -1,12 +1,12 @@
 use lib.ListN.{getD}
 use Rattle.state.specs.Fresh.{freshArea}
 use borrow.Author.Needs.{needs}
-use Rattle.manager.proofs.changes.ask.Statement.{statement}
-use Rattle.manager.proofs.changes.ask.Tie as tie
-use Rattle.manager.proofs.changes.ask.Reads as reads
-use Rattle.manager.proofs.changes.ask.Lts as lts
+use Rattle.changes.proofs.ask.Statement.{statement}
+use Rattle.changes.proofs.ask.Tie as tie
+use Rattle.changes.proofs.ask.Reads as reads
+use Rattle.changes.proofs.ask.Lts as lts
 use Rattle.machine.proofs.soundness.is_sound.Reads as is-sound-reads
-use Rattle.manager.proofs.changes.place.Reads as place-reads
+use Rattle.changes.proofs.place.Reads as place-reads
 
 is-sound-requires : tie.Need-is-sound-requires
 is-sound-requires c κs = search needs

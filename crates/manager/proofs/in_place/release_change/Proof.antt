@@ -4,17 +4,18 @@ use native.Mathlib.Omega.{arith}
 use Rattle.machine.specs.laws.SoundCases.{sound-few}
 use Rattle.memory.specs.Numbers.{admissionNumber}
 use Rattle.manager.specs.Calls.{managerOf}
-use Rattle.manager.specs.laws.CallLaws.{refused-some, release-number, release-few, release-known, release-refused}
+use Rattle.changes.specs.laws.Changes.{refused-some}
+use Rattle.manager.specs.laws.CallLaws.{release-number, release-few, release-known, release-refused}
 use Rattle.manager.specs.laws.ChangeLaws.{kept, release-freed}
 use borrow.Author.Needs.{needs}
-use Rattle.manager.proofs.changes.release_change.Statement.{statement}
-use Rattle.manager.proofs.changes.release_change.Tie as tie
-use Rattle.manager.proofs.changes.release_change.Reads as reads
-use Rattle.manager.proofs.changes.release_change.Lts as lts
+use Rattle.manager.proofs.in_place.release_change.Statement.{statement}
+use Rattle.manager.proofs.in_place.release_change.Tie as tie
+use Rattle.manager.proofs.in_place.release_change.Reads as reads
+use Rattle.manager.proofs.in_place.release_change.Lts as lts
 use Rattle.admission.proofs.range_device.Reads as range-device-reads
 use Rattle.questions.proofs.release_admission.Reads as release-admission-reads
 use Rattle.machine.proofs.soundness.is_sound.Reads as is-sound-reads
-use Rattle.manager.proofs.changes.Change.none.Reads as none-reads
+use Rattle.changes.proofs.Change.none.Reads as none-reads
 
 is-sound-requires : tie.Need-is-sound-requires
 is-sound-requires c κs = search needs

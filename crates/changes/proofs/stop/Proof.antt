@@ -1,8 +1,8 @@
 use borrow.Author.Needs.{needs}
-use Rattle.manager.proofs.changes.stop.Statement.{statement}
-use Rattle.manager.proofs.changes.stop.Tie as tie
-use Rattle.manager.proofs.changes.stop.Reads as reads
-use Rattle.manager.proofs.changes.stop.Lts as lts
+use Rattle.changes.proofs.stop.Statement.{statement}
+use Rattle.changes.proofs.stop.Tie as tie
+use Rattle.changes.proofs.stop.Reads as reads
+use Rattle.changes.proofs.stop.Lts as lts
 use Rattle.devices.proofs.cancelled_job.Reads as cancelled-job-reads
 
 cancelled-job-requires : tie.Need-cancelled-job-requires

@@ -1,12 +1,12 @@
 use mathlib.Core.Path.{ap}
 use Rattle.admission.specs.AdmissionLaws.{accepted-retries}
 use Rattle.memory.specs.Numbers.{admissionNumber}
-use Rattle.manager.specs.laws.ChangeLaws.{begun-refused, begun-accepted}
+use Rattle.changes.specs.laws.Changes.{begun-refused, begun-accepted}
 use borrow.Author.Needs.{needs}
-use Rattle.manager.proofs.changes.begin.Statement.{statement}
-use Rattle.manager.proofs.changes.begin.Tie as tie
-use Rattle.manager.proofs.changes.begin.Reads as reads
-use Rattle.manager.proofs.changes.begin.Lts as lts
+use Rattle.changes.proofs.begin.Statement.{statement}
+use Rattle.changes.proofs.begin.Tie as tie
+use Rattle.changes.proofs.begin.Reads as reads
+use Rattle.changes.proofs.begin.Lts as lts
 use Rattle.admission.proofs.range_admission.Reads as range-admission-reads
 use Rattle.jobs.proofs.begun.Reads as begun-reads
 use Rattle.jobs.proofs.ranks.ages_after.Reads as ages-after-reads

@@ -7,16 +7,17 @@ use Rattle.arith.specs.FirstNo.{firstNo}
 use Rattle.rules.specs.Admission.{isKnown, rangeQuestions}
 use Rattle.rules.specs.Machine.{isPending}
 use Rattle.state.specs.Fresh.{freeDevice}
-use Rattle.manager.specs.laws.ChangeLaws.{begunChange, kept, job-none, job-asked, job-begun}
+use Rattle.changes.specs.laws.Changes.{begunChange}
+use Rattle.manager.specs.laws.ChangeLaws.{kept, job-none, job-asked, job-begun}
 use borrow.Author.Needs.{needs}
-use Rattle.manager.proofs.changes.job_change.Statement.{statement}
-use Rattle.manager.proofs.changes.job_change.Tie as tie
-use Rattle.manager.proofs.changes.job_change.Reads as reads
-use Rattle.manager.proofs.changes.job_change.Lts as lts
+use Rattle.manager.proofs.in_place.job_change.Statement.{statement}
+use Rattle.manager.proofs.in_place.job_change.Tie as tie
+use Rattle.manager.proofs.in_place.job_change.Reads as reads
+use Rattle.manager.proofs.in_place.job_change.Lts as lts
 use Rattle.questions.proofs.idle_admission.Reads as idle-admission-reads
-use Rattle.manager.proofs.changes.Change.none.Reads as none-reads
-use Rattle.manager.proofs.changes.ask.Reads as ask-reads
-use Rattle.manager.proofs.changes.begin.Reads as begin-reads
+use Rattle.changes.proofs.Change.none.Reads as none-reads
+use Rattle.changes.proofs.ask.Reads as ask-reads
+use Rattle.changes.proofs.begin.Reads as begin-reads
 
 ask-requires : tie.Need-ask-requires
 ask-requires c κs = search needs
