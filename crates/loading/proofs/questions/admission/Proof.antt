@@ -6,12 +6,12 @@ use Rattle.loading.proofs.questions.admission.Statement.{statement}
 use Rattle.loading.proofs.questions.admission.Tie as tie
 use Rattle.loading.proofs.questions.admission.Reads as reads
 use Rattle.loading.proofs.questions.admission.Lts as lts
-use Rattle.loading.proofs.questions.all_apart.Reads as all-apart-reads
-use Rattle.loading.proofs.questions.all_sizes_fit.Reads as all-sizes-fit-reads
-use Rattle.loading.proofs.questions.devices_join.Reads as devices-join-reads
-use Rattle.loading.proofs.questions.windows_fit.Reads as windows-fit-reads
-use Rattle.loading.proofs.questions.places_fit.Reads as places-fit-reads
-use Rattle.loading.proofs.questions.spaces_fit.Reads as spaces-fit-reads
+use Rattle.plan_questions.proofs.all_apart.Reads as all-apart-reads
+use Rattle.plan_questions.proofs.all_sizes_fit.Reads as all-sizes-fit-reads
+use Rattle.plan_questions.proofs.devices_join.Reads as devices-join-reads
+use Rattle.plan_questions.proofs.windows_fit.Reads as windows-fit-reads
+use Rattle.plan_questions.proofs.places_fit.Reads as places-fit-reads
+use Rattle.plan_questions.proofs.spaces_fit.Reads as spaces-fit-reads
 
 devices-join-requires : tie.Need-devices-join-requires
 devices-join-requires c κs = let few = counts _ _ _ (c .before .pre) in omega arith
