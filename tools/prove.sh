@@ -9,7 +9,7 @@ sh tools/need.sh rt
 . tools/beside.sh
 
 # What a crate takes on two cores, on an average of all.
-seconds_each=12
+seconds_each=10
 
 kit=$(rt version)
 
