@@ -61,6 +61,7 @@ comparisons() {
 part "layout and recorded plans" layout
 begin_own_tests
 part "proofs and edits" proofs
+part "edits of several functions" sh tools/refused.sh
 part "the model's own tests, begun beside them" own_tests
 part "recorded runs" sh tools/recorded-runs.sh
 part "libraries" sh tools/prove.sh --library interface timing
