@@ -1,9 +1,9 @@
 # shellcheck shell=sh
 # Sourced: a folder for a script's own files, and what runs beside the script and ends with it.
 
-# rt waits for the slowest of a batch before it starts the next, so a batch is larger than two cores need: as large as memory lets it be, at a good
-# 1 GB for a crate, up to 16.
-jobs_in_memory() { awk '/^MemAvailable:/ { n = int($2 / 1200000); print (n < 2 ? 2 : n > 16 ? 16 : n) }' /proc/meminfo; }
+# rt waits for the slowest of a batch before it starts the next, so a batch is larger than two cores need: as large as memory lets it be, at 2 GB for the
+# largest crate, up to 8 (16 were no faster).
+jobs_in_memory() { awk '/^MemAvailable:/ { n = int($2 / 2000000); print (n < 2 ? 2 : n > 8 ? 8 : n) }' /proc/meminfo; }
 export RT_JOBS="${RT_JOBS:-$(jobs_in_memory)}"
 
 # rt is given a process group of its own to be ended by: Ctrl-C passes by the jobs that it starts. It ends well: a crate that was begun has no
