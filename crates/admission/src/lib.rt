@@ -18,7 +18,7 @@ use memory::LogicalAddress;
 use memory::MemAddress;
 use memory::Refusal;
 use memory::Task;
-use plan::number::is_multiple;
+use multiples::is_multiple;
 use plan::records::AreaRecord;
 use plan::records::Plan;
 use plan::records::SubAreaRecord;

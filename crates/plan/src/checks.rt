@@ -3,11 +3,11 @@ ghost use mathlib.Core.Path.{_≡_};
 ghost use Prim.Native.Nat.{_+_, _*_, _≤_, _<_};
 ghost use lib.Dec.{leb};
 ghost use Rattle.plan.specs.Questions.{within, countsFit, lengthSum, apart, deviceEnd, deviceJoins, windowEnd, windowsApart, granularityFits, sizesFit, sizeOf, endOf, insideDevice, isPlaced, subAreasApart};
-use crate::number::is_multiple;
 use crate::records::AreaRecord;
 use crate::records::DeviceRecord;
 use crate::records::Granularity;
 use crate::records::SubAreaRecord;
+use multiples::is_multiple;
 
 fn is_within(most: usize, n: usize) -> bool
     ensures { λ r. ⌜ r ≡ within most n ⌝ }

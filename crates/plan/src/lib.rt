@@ -1,5 +1,5 @@
 // A plan: its records, how they are read from bytes, and what the questions of a load ask of them one by one.
 pub mod checks;
-pub mod number;
+mod number;
 pub mod records;
 pub mod scan;

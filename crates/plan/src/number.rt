@@ -1,8 +1,7 @@
-// Numbers in a plan's bytes, and multiples of a size.
+// Numbers in a plan's bytes.
 ghost use mathlib.Core.Path.{_≡_};
 ghost use Prim.Native.Nat.{_+_, _^_, _≤_, _<_};
 ghost use lib.ListN.{length};
-ghost use Rattle.arith.specs.Multiples.{multiple};
 ghost use Rattle.plan.specs.Number.{numberAt};
 
 fn wide(byte: u8) -> u64
@@ -44,14 +43,4 @@ pub(crate) fn u32_at(bytes: &[u8], at: usize) -> u32
     ensures { λ r. ⌜ r ≡ numberAt 4 (now (bytes .entry)) at ⌝ }
 {
     number_at(bytes, at, 4) as u32
-}
-
-// Is n a multiple of the size? (0 alone is one of 0.)
-pub fn is_multiple(size: u64, n: u64) -> bool
-    ensures { λ r. ⌜ r ≡ multiple size n ⌝ }
-{
-    if size == 0 {
-        return n == 0;
-    }
-    n % size == 0
 }

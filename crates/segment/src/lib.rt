@@ -11,7 +11,7 @@ use memory::JobType;
 use memory::LogicalAddress;
 use memory::MemAddress;
 use memory::Task;
-use plan::number::is_multiple;
+use multiples::is_multiple;
 use plan::records::Granularity;
 use plan::records::Plan;
 use plan::records::SubAreaRecord;

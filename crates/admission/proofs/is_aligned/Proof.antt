@@ -5,7 +5,7 @@ use Rattle.admission.proofs.is_aligned.Tie as tie
 use Rattle.admission.proofs.is_aligned.Reads as reads
 use Rattle.admission.proofs.is_aligned.Lts as lts
 use Rattle.admission.proofs.offset_of.Reads as offset-of-reads
-use Rattle.plan.proofs.number.is_multiple.Reads as is-multiple-reads
+use Rattle.multiples.proofs.is_multiple.Reads as is-multiple-reads
 use Rattle.segment.proofs.unit_of.Reads as unit-of-reads
 
 unit-of-requires : tie.Need-unit-of-requires

@@ -4,7 +4,7 @@ use Rattle.segment.proofs.burst_or_unit.Statement.{statement}
 use Rattle.segment.proofs.burst_or_unit.Tie as tie
 use Rattle.segment.proofs.burst_or_unit.Reads as reads
 use Rattle.segment.proofs.burst_or_unit.Lts as lts
-use Rattle.plan.proofs.number.is_multiple.Reads as is-multiple-reads
+use Rattle.multiples.proofs.is_multiple.Reads as is-multiple-reads
 
 cast-burst : tie.Need-cast-burst
 cast-burst c = search needs

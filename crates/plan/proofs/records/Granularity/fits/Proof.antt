@@ -4,7 +4,7 @@ use Rattle.plan.proofs.records.Granularity.fits.Statement.{statement}
 use Rattle.plan.proofs.records.Granularity.fits.Tie as tie
 use Rattle.plan.proofs.records.Granularity.fits.Reads as reads
 use Rattle.plan.proofs.records.Granularity.fits.Lts as lts
-use Rattle.plan.proofs.number.is_multiple.Reads as is-multiple-reads
+use Rattle.multiples.proofs.is_multiple.Reads as is-multiple-reads
 
 returns : tie.Need-returns
 unfolding Rattle.plan.specs.Questions.granularityFits

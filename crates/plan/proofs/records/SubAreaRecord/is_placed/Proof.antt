@@ -4,7 +4,7 @@ use Rattle.plan.proofs.records.SubAreaRecord.is_placed.Statement.{state
 use Rattle.plan.proofs.records.SubAreaRecord.is_placed.Tie as tie
 use Rattle.plan.proofs.records.SubAreaRecord.is_placed.Reads as reads
 use Rattle.plan.proofs.records.SubAreaRecord.is_placed.Lts as lts
-use Rattle.plan.proofs.number.is_multiple.Reads as is-multiple-reads
+use Rattle.multiples.proofs.is_multiple.Reads as is-multiple-reads
 use Rattle.plan.proofs.records.SubAreaRecord.is_inside.Reads as is-inside-reads
 
 cast-if1 : tie.Need-cast-if1

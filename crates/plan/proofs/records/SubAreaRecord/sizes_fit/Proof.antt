@@ -4,7 +4,7 @@ use Rattle.plan.proofs.records.SubAreaRecord.sizes_fit.Statement.{state
 use Rattle.plan.proofs.records.SubAreaRecord.sizes_fit.Tie as tie
 use Rattle.plan.proofs.records.SubAreaRecord.sizes_fit.Reads as reads
 use Rattle.plan.proofs.records.SubAreaRecord.sizes_fit.Lts as lts
-use Rattle.plan.proofs.number.is_multiple.Reads as is-multiple-reads
+use Rattle.multiples.proofs.is_multiple.Reads as is-multiple-reads
 use Rattle.plan.proofs.records.Granularity.fits.Reads as fits-reads
 
 fits-requires : tie.Need-fits-requires
