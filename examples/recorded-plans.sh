@@ -61,6 +61,13 @@ plan_marks() {
     sub_area 3 2 64 16 16 4 4 1 8 2 1 0
 }
 
+# plan W: its bursts, 24 and 12, are no powers of two
+plan_w() {
+    device 0 96 3
+    area 1 0 0 48
+    sub_area 0 0 12 12 24 4 12 2 6 4 0 0
+}
+
 # The largest image and store: devices of 65,536 bytes together, and a window that ends at 65,536. Area 1's window is the store's last byte, area 0's the 16 bytes before it; area 1 lies on the
 # image's last 16 bytes, area 0 on the 16 before them.
 # Its recorded run, from document 01: image byte 65,535 is 255 and store byte 65,535 is 0, so compare ends with 2 and blank check with 0. A write makes the image byte 0: blank check 2, compare 0. A read of image byte
@@ -93,6 +100,7 @@ plan_t 64 2 3 3 | keep runs/equals/plan.bin
 plan_four | keep runs/devices/plan.bin
 plan_both | keep runs/suspends/plan.bin
 plan_marks | keep runs/clears/plan.bin
+plan_w | keep runs/bursts/plan.bin
 plan_store | keep runs/store/plan.bin
 plan_t 64 0 1 5 | keep runs/refused/plan.bin
 plan_t 65537 2 1 5 | keep runs/sum/plan.bin

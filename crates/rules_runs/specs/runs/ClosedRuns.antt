@@ -37,6 +37,10 @@ planU =
 abbrev pub planV : List ℕ
 planV = device 0 64 2 ++ area 3 0 0 16 ++ area 3 256 16 16 ++ subArea 0 0 0 (sizes 16 32 4 8 1 8) 2 1 0 ++ subArea 1 0 32 (sizes 16 16 4 4 1 4) 2 0 0
 
+-- bursts 24 and 12, which are no powers of two
+abbrev pub planW : List ℕ
+planW = device 0 96 3 ++ area 1 0 0 48 ++ subArea 0 0 12 (sizes 12 24 4 12 2 6) 4 0 0
+
 abbrev pub job : JobType → ℕ → ℕ → ℕ → Line
 job k a address n = call (History.submit a (record { kind = k; address = record { 0 = address }; length = n }))
 
@@ -49,11 +53,11 @@ release a address n = call (History.releases a (record { 0 = address }) n)
 abbrev pub ask : ℕ → Line
 ask a = call (History.asks (History.jobInfo a))
 
--- what the bench prints on a plan with an image of n bytes; the windows end at 32
+-- what the bench prints on a plan with an image of n bytes; no window ends behind 48
 abbrev pub prints : List ℕ → ℕ → List Line → List Entry
 prints plan n lines =
     Session.play (Records.planOf plan) lines
-    (record { history = History.freshHistory; memory = record { image = replicate n 255; store = replicate 32 0 }; printed = [] }) .printed
+    (record { history = History.freshHistory; memory = record { image = replicate n 255; store = replicate 48 0 }; printed = [] }) .printed
 
 -- Area a writes 4 zeros at x, reads 4 bytes of 255 behind them and writes these over the zeros. When that job is over, n bytes are compared.
 abbrev rewrites : ℕ → ℕ → List Line → ℕ → List Line
@@ -164,5 +168,8 @@ pub closed-runs :
     -- An erase gives way there too.
     × (prints (planE 70 3) 64 (job Erase 0 0 16 ∷ answers (Pending ∷ []) ∷ job Read 1 256 4 ∷ answers (Pending ∷ []) ∷ answers (Done ∷ []) ∷ answers (Done ∷ []) ∷ ask 0 ∷ ask 1 ∷ [])
     ≡ number 0 ∷ devices (request 0 4 0 16 ∷ []) ∷ number 0 ∷ devices (request 1 2 16 4 ∷ []) ∷ devices (request 0 4 0 16 ∷ []) ∷ devices (nothing ∷ []) ∷ info 0 16 2 1 0 0 ∷ info 0 4 1 0 0 0 ∷ [])
+    -- A burst that is no power of two, on its multiples: 24 is one of 12, while 16 and 20 are none; 24 is one of 24, 12 is none, and at 48 too few bytes are left.
+    × (prints planW 96 (job Write 0 4 20 ∷ answers (Done ∷ []) ∷ answers (Done ∷ []) ∷ answers (Done ∷ []) ∷ answers (Done ∷ []) ∷ ask 0 ∷ job Erase 0 0 48 ∷ answers (Done ∷ []) ∷ answers (Done ∷ []) ∷ answers (Done ∷ []) ∷ answers (Done ∷ []) ∷ ask 0 ∷ [])
+    ≡ number 0 ∷ devices (request 0 1 16 4 ∷ []) ∷ devices (request 0 1 20 4 ∷ []) ∷ devices (request 0 1 24 12 ∷ []) ∷ devices (nothing ∷ []) ∷ info 0 20 3 0 0 0 ∷ number 0 ∷ devices (request 0 4 12 12 ∷ []) ∷ devices (request 0 4 24 24 ∷ []) ∷ devices (request 0 4 48 12 ∷ []) ∷ devices (nothing ∷ []) ∷ info 0 48 3 0 0 0 ∷ [])
 unfolding Bounded.every Bounded.some Bounded.sum FirstNo.firstNo Listed.listed Multiples.multiple Tables.table Parts.part Parts.put Parts.upd Number.numberAt Records.deviceAt Records.areaAt Records.granularityAt Records.subAreaAt Records.isRecord Records.recordsUpTo Records.recordsFrom Records.deviceCount Records.areasStart Records.areaCount Records.subAreasStart Records.subAreaCount Records.recordsEnd Records.recordLayout Records.planOf Records.emptyPlan Questions.apart Questions.wholeRecords Questions.countsFit Questions.deviceDue Questions.deviceJoins Questions.devicesJoin Questions.windowsApart Questions.windowsFit Questions.granularityFits Questions.sizesFit Questions.insideDevice Questions.isPlaced Questions.allPlaced Questions.sizeIn Questions.spaceFits Questions.spacesFit Questions.subAreasApart Questions.recordQuestions Questions.planQuestions Questions.loadNumber Questions.loadedPlan Mapping.find Mapping.mapped Segments.burstOrUnit Segments.segmentAt Segments.cut Segments.segmentsFrom Segments.spansAfter Segments.spans Segments.ownSum Segments.belowSum Segments.ownBound Segments.belowBound Ranks.agesAfter Ranks.rankAbove Layout.layoutOf Machine.jobFailed Machine.jobFinished Machine.jobDiffers Machine.takeAnswer Machine.firstHalf Machine.ready Machine.best Machine.startDevice Machine.secondHalf Machine.waitBehind Machine.cancel Machine.begin Machine.release Admission.isInside Admission.isAligned Admission.fitsWindow Admission.onOneDevice Admission.rangeDevice Admission.jobQuestions Admission.releaseQuestions Admission.cancelQuestions Admission.infoQuestions Admission.memoryInfoQuestions Admission.imageFits Admission.storeReaches Admission.jobNumber Admission.releaseNumber Admission.cancelNumber Admission.infoNumber Admission.memoryInfoNumber Admission.roundNumber Admission.admits Round.takeIn Round.takeAll Round.roundHalves History.freshHistory History.roundOf History.submitted History.step History.run Session.shownTo Session.entryOf Session.playLine Session.play
-closed-runs = (refl, refl, refl, refl, refl, refl, refl, refl, refl, refl, refl, refl, refl, refl, refl, refl, refl, refl, refl, refl, refl, refl, refl, refl, refl, refl, refl, refl, refl, refl, refl, refl, refl, refl)
+closed-runs = (refl, refl, refl, refl, refl, refl, refl, refl, refl, refl, refl, refl, refl, refl, refl, refl, refl, refl, refl, refl, refl, refl, refl, refl, refl, refl, refl, refl, refl, refl, refl, refl, refl, refl, refl)
