@@ -1,3 +1,4 @@
 pub mod Repeated
 pub mod Rounds
 pub mod Grown
+pub mod Cutting

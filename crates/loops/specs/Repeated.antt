@@ -1,4 +1,4 @@
--- A call made again and again, each time on the manager that the last one returned, and the sum of what it answers.
+-- A call made again and again, each time on the manager that the last one returned, and the sum of what it answers. The first part says it of any state.
 use Prim.Native.Nat.{ℕ, zero, suc, _+_, _%_}
 use mathlib.Core.Path.{_≡_, refl}
 use mathlib.Core.List.{List}
@@ -12,9 +12,9 @@ use Rattle.memory.specs.declared.JobType.{JobType}
 use Rattle.memory.specs.declared.JobType.the-variants.{Write, Read, Compare, Erase, BlankCheck, Lock}
 use Rattle.memory.specs.declared.Task.{Task}
 
--- next i: what call number i leaves
-module _ (next : ℕ → Manager → Manager) (m : Manager) where
-  unfoldable pub repeated : ℕ → Manager
+-- next i: what turn number i leaves
+module _ {A : Type 0} (next : ℕ → A → A) (m : A) where
+  unfoldable pub repeated : ℕ → A
   repeated zero = m
   repeated (suc n) = next n (repeated n)
 
@@ -23,14 +23,14 @@ module _ (next : ℕ → Manager → Manager) (m : Manager) where
   unfolding repeated
   repeated-more n = rw add-one
 
--- a query leaves the manager as it is
-pub repeated-query : (m : Manager) (n : ℕ) → repeated (λ i x. x) m n ≡ m
+-- a query leaves all as it is
+pub repeated-query : {A : Type 0} (m : A) (n : ℕ) → repeated (λ i x. x) m n ≡ m
 unfolding repeated
 repeated-query m zero = refl
 repeated-query m (suc n) = repeated-query m n
 
--- answer i: what call number i answers
-module _ (next : ℕ → Manager → Manager) (answer : ℕ → Manager → ℕ) (m : Manager) where
+-- answer i: what turn number i answers
+module _ {A : Type 0} (next : ℕ → A → A) (answer : ℕ → A → ℕ) (m : A) where
   unfoldable pub total : ℕ → ℕ
   total zero = 0
   total (suc n) = total n + answer n (repeated next m n)

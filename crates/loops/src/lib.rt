@@ -9,6 +9,7 @@ ghost use Rattle.memory.specs.Numbers.{admissionNumber};
 ghost use Rattle.effects.specs.Effects.{memoryOf};
 ghost use Rattle.loops.specs.Rounds.{answerNumbered, answersOf, processedTotal, roundsTotal, benchAfter};
 
+pub mod cutting;
 pub mod grown;
 pub mod in_place;
 

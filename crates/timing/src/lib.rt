@@ -1,6 +1,7 @@
 // What the benchmarks link: the loops of crate `loops`, for C and Rust. They are exported from a crate of their own because a library proves its crate anew.
 ghost use mathlib.Core.Path.{_≡_};
-ghost use Rattle.loops.specs.Repeated.{cancelTotal, jobTotal, pairTotal, busyManager, infoTotal};
+ghost use Rattle.loops.specs.Repeated.{taskOf, cancelTotal, jobTotal, pairTotal, busyManager, infoTotal};
+ghost use Rattle.loops.specs.Cutting.{multipleCount, cutTotal};
 ghost use Rattle.loops.specs.Rounds.{answersOf, roundsTotal, benchAfter};
 ghost use Rattle.manager.specs.Load.{loadedManager};
 ghost use Rattle.effects.specs.Effects.{memoryOf};
@@ -152,4 +153,19 @@ pub extern "C" fn luvdrog_time_grown_rounds_in_place(
     ensures { λ _. ⌜ now (store .exit) ≡ benchAfter (busyManager kind length (now (plan .entry))) (memoryOf (now (image .entry)) (now (store .entry))) (answersOf answer) times .lent .store ⌝ }
 {
     loops::grown::rounds_in_place(plan, kind, length, answer, times, image, store)
+}
+
+// Cutting alone.
+#[no_mangle]
+pub extern "C" fn luvdrog_time_burst_tests(sizes: &[u64], addresses: &[u64]) -> u64
+    ensures { λ r. ⌜ r ≡ multipleCount (now (sizes .entry)) (now (addresses .entry)) ⌝ }
+{
+    loops::cutting::burst_tests(sizes, addresses)
+}
+
+#[no_mangle]
+pub extern "C" fn luvdrog_time_cuts(plan: &[u8], kind: u8, length: u32, times: u32) -> u64
+    ensures { λ r. ⌜ r ≡ cutTotal (loadedManager (now (plan .entry)) .plan) (taskOf kind length) times ⌝ }
+{
+    loops::cutting::cuts(plan, kind, length, times)
 }

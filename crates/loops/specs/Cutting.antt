@@ -1,0 +1,46 @@
+-- Cutting alone: the burst test over two lists, and the segments of a job one after the other.
+use Prim.Native.Nat.{ℕ, _+_, _-_, _≤_, min}
+use mathlib.Core.List.{List}
+use native.Mathlib.Omega.{arith}
+use borrow.Author.Tests.{eqb-true}
+use lib.Dec.{eqb, ltb}
+use lib.ListN.{length, getD}
+use Rattle.arith.specs.Bounded.{sum}
+use Rattle.arith.specs.Cases.{pick, by-bool}
+use Rattle.arith.specs.Multiples.{multiple}
+use Rattle.manager.specs.Load.{loadedManager, zeroManager, freshManager}
+use Rattle.memory.specs.declared.Task.{Task}
+use Rattle.plan.specs.Questions.{loadNumber}
+use Rattle.plan.specs.Records.{emptyPlan}
+use Rattle.plan.specs.laws.Accepted.{accepted}
+use Rattle.plan.specs.declared.records.Plan.{Plan}
+use Rattle.segment.specs.Segments.{segmentAt}
+use Rattle.loops.specs.Repeated.{total}
+
+-- 1 where address i is a multiple of size i
+abbrev pub multipleAt : List ℕ → List ℕ → ℕ → ℕ
+multipleAt sizes addresses i = pick (multiple (getD sizes i 0) (getD addresses i 0)) 1 0
+
+-- how many of the addresses are multiples of their sizes, as far as both lists go
+unfoldable pub multipleCount : List ℕ → List ℕ → ℕ
+multipleCount sizes addresses = sum (multipleAt sizes addresses) (min (length sizes) (length addresses))
+
+-- what of n bytes is processed when the k bytes behind the first x are done: at the end the job begins anew
+unfoldable pub processedNext : ℕ → ℕ → ℕ → ℕ
+processedNext n x k = pick (ltb k (n - x)) (x + k) 0
+
+-- the segment of area 0's task that is due once x bytes are processed
+abbrev pub nextCut : Plan → Task → ℕ → ℕ → ℕ
+nextCut p t i x = processedNext (t .length) x (segmentAt p 0 t x .length)
+
+-- cut by cut from 0 on: the sum of what is processed then
+abbrev pub cutTotal : Plan → Task → ℕ → ℕ
+cutTotal p t = total (nextCut p t) (nextCut p t) 0
+
+-- a load keeps at most 32 sub-areas
+pub loaded-few : (l : List ℕ) → loadedManager l .plan .«sub_area_count» ≤ 32
+unfolding loadedManager zeroManager freshManager emptyPlan
+loaded-few l =
+    by-bool (eqb (loadNumber l) 0)
+    (λ e. rw e (accepted l .0 (eqb-true (loadNumber l) 0 e) .1 .sub-area-most))
+    (λ e. rw e (omega arith))
