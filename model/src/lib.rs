@@ -1,4 +1,5 @@
-//! An independent model of the memory access manager of document 01 with Req 01 to 03 of document 02.
+//! An independent model of the memory access manager of document 01 with Req 01 to 04 of document 02, of
+//! which the last changes no answer.
 //!
 //! The model is written from these documents and the list of readings alone, in the plainest form that
 //! can be held against their sentences. It shares no code with the proved library; with feature

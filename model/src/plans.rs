@@ -201,6 +201,29 @@ pub fn plan_f(patience: u16) -> Plan {
     with_chips(plan_e(patience), Chip::Clearing)
 }
 
+/// One sub-area, from byte 12 on, whose bursts, 24 and 12, are no powers of two.
+pub fn plan_w() -> Plan {
+    let sub_area = SubArea {
+        area: 0,
+        device: 0,
+        start: 12,
+        sector: 12,
+        sector_burst: 24,
+        page: 4,
+        page_burst: 12,
+        smallest_read: 2,
+        largest_read: 6,
+        sector_count: 4,
+        write_retries: 0,
+        erase_retries: 0,
+    };
+    Plan {
+        devices: vec![Device { start: 0, length: 96, patience: 3, chip: Chip::Plain }],
+        areas: vec![Area { priority: 1, logical_start: 0, window_start: 0, window_length: 48 }],
+        sub_areas: vec![sub_area],
+    }
+}
+
 /// The plan with all its devices of one kind.
 pub fn with_chips(mut plan: Plan, chip: Chip) -> Plan {
     plan.devices.iter_mut().for_each(|device| device.chip = chip);

@@ -107,6 +107,9 @@ pub fn pieces(
 /// "At physical address p with n job bytes left in this sub-area, the next piece is: erase: a sector
 /// burst if p is a multiple of it and n is at least it, else one sector; write: the same with page
 /// burst and page; read, compare, blank check: n or the largest read, the smaller."
+///
+/// Req 04 of document 02 wants no division where the burst is a power of two, and "Pieces and contracts
+/// keep their present meaning". The model divides for every burst: it is what the mask is held against.
 fn piece_length(operation: Operation, sub_area: &SubArea, p: u64, n: u64) -> u64 {
     let burst_or_unit = |burst: u32, unit: u32| {
         let fits = p.is_multiple_of(u64::from(burst)) && n >= u64::from(burst);

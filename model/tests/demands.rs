@@ -5,7 +5,7 @@ use model::demands::{Tally, Trial};
 use model::jobs::{Answer, Operation, Target};
 use model::plan::{Area, Chip, Device, Plan, SubArea};
 use model::plans::{draw_marks, equals_meet, largest, priority_count, small, valid};
-use model::plans::{plan_e, plan_f, plan_t, plan_v};
+use model::plans::{plan_e, plan_f, plan_t, plan_v, plan_w};
 use model::random::Random;
 use model::sessions::{busy_calls, busy_plan, steps, Step};
 use std::time::Instant;
@@ -110,12 +110,12 @@ fn small_plans() {
     assert_tried(&runs(51, 9_000, small), 1_000);
 }
 
-/// Longer jobs on plans T, V, E and F, on the plan with most records, and on random plans with little
+/// Longer jobs on plans T, W, V, E and F, on the plan with most records, and on random plans with little
 /// patience.
 #[test]
 fn other_plans() {
     let plan = |random: &mut Random| match random.below(16) {
-        0 => plan_t(),
+        0 => random.pick(&[plan_t, plan_w])(),
         1 => random.pick(&[plan_e, plan_f])(random.pick(&[2, 3, 5])),
         2..=5 => plan_v(),
         6 => largest(),

@@ -1,9 +1,10 @@
-//! The mapping, the pieces and questions 12 to 15 decided another way: byte by byte.
+//! The mapping, the pieces and questions 12 to 15 decided another way: byte by byte; and pieces of bursts
+//! that are powers of two or not, written by hand.
 
 use model::admission::{self, Standing};
 use model::jobs::{Operation, Target};
-use model::plan::{Plan, SubArea};
-use model::plans::{plan_t, small};
+use model::plan::{load, Plan, SubArea};
+use model::plans::{encode, plan_t, plan_w, small};
 use model::random::Random;
 use model::segments::{pieces, Piece};
 use std::ops::Range;
@@ -148,7 +149,7 @@ fn check(plan: &Plan, area: &[Byte], target: Target, counts: &mut [u32; 16]) {
 #[test]
 fn every_range_of_small_plans() {
     let mut random = Random::new(41);
-    let mut plans = vec![plan_t()];
+    let mut plans = vec![plan_t(), plan_w()];
     plans.extend((0..150).map(|_| small(&mut random)));
     let mut counts = [0; 16];
     for plan in &plans {
@@ -163,4 +164,81 @@ fn every_range_of_small_plans() {
     for number in [0, 12, 13, 14, 15] {
         assert!(counts[number] >= 10_000, "number {number}: only {}", counts[number]);
     }
+}
+
+/// A range of area 0 on plan W, and its pieces as length and physical address. Logical 0 is physical 12.
+type Case = (Range<u64>, &'static [(u64, u64)]);
+
+/// Checks cases on plan W, whose sub-area is changed so.
+fn check_pieces(operation: Operation, change: impl Fn(&mut SubArea), cases: &[Case]) {
+    let mut plan = plan_w();
+    change(&mut plan.sub_areas[0]);
+    assert_eq!(load(&encode(&plan)).as_ref(), Ok(&plan));
+    for (range, owed) in cases {
+        let pieces = pieces(&plan, operation, 0, range.clone());
+        let given: Vec<_> = pieces.map(|piece| (piece.length, piece.start)).collect();
+        assert_eq!(given, *owed, "{operation:?} {range:?} {plan:?}");
+    }
+}
+
+/// Page bursts 12, 24, 2 and 1. With burst 12 at 16, and with burst 24 at 32, `address & (burst - 1)` is 0
+/// though the address is no multiple; at 12 and 24, and with burst 24 at 24, it is not 0 though it is one.
+#[test]
+fn writes_with_bursts_of_any_size() {
+    let cases: [Case; 7] = [
+        (0..12, &[(12, 12)]),
+        (0..8, &[(4, 12), (4, 16)]),
+        (4..16, &[(4, 16), (4, 20), (4, 24)]),
+        (4..24, &[(4, 16), (4, 20), (12, 24)]),
+        (12..36, &[(12, 24), (12, 36)]),
+        (32..48, &[(4, 44), (12, 48)]),
+        (0..48, &[(12, 12), (12, 24), (12, 36), (12, 48)]),
+    ];
+    check_pieces(Operation::Write, |_| {}, &cases);
+    let cases: [Case; 4] = [
+        (12..36, &[(24, 24)]),
+        (12..32, &[(4, 24), (4, 28), (4, 32), (4, 36), (4, 40)]),
+        (8..36, &[(4, 20), (24, 24)]),
+        (20..48, &[(4, 32), (4, 36), (4, 40), (4, 44), (4, 48), (4, 52), (4, 56)]),
+    ];
+    check_pieces(Operation::Write, |s| s.page_burst = 24, &cases);
+    let cases: [Case; 4] = [
+        (3..7, &[(1, 15), (2, 16), (1, 18)]),
+        (4..8, &[(2, 16), (2, 18)]),
+        (3..4, &[(1, 15)]),
+        (4..5, &[(1, 16)]),
+    ];
+    check_pieces(Operation::Write, |s| (s.page, s.page_burst) = (1, 2), &cases);
+    let cases: [Case; 2] = [(3..6, &[(1, 15), (1, 16), (1, 17)]), (4..5, &[(1, 16)])];
+    check_pieces(Operation::Write, |s| (s.page, s.page_burst) = (1, 1), &cases);
+}
+
+/// Sector bursts 24, 12, 2 and 1.
+#[test]
+fn erases_with_bursts_of_any_size() {
+    let cases: [Case; 6] = [
+        (0..48, &[(12, 12), (24, 24), (12, 48)]),
+        (12..36, &[(24, 24)]),
+        (12..24, &[(12, 24)]),
+        (0..24, &[(12, 12), (12, 24)]),
+        (24..48, &[(12, 36), (12, 48)]),
+        (36..48, &[(12, 48)]),
+    ];
+    check_pieces(Operation::Erase, |_| {}, &cases);
+    let with_sectors = |sector: u32, burst: u32| {
+        move |s: &mut SubArea| {
+            (s.sector, s.sector_burst, s.sector_count) = (sector, burst, 48 / sector);
+            (s.page, s.smallest_read) = (1, 1);
+        }
+    };
+    let cases: [Case; 3] = [
+        (4..16, &[(4, 16), (4, 20), (4, 24)]),
+        (4..28, &[(4, 16), (4, 20), (12, 24), (4, 36)]),
+        (0..24, &[(12, 12), (12, 24)]),
+    ];
+    check_pieces(Operation::Erase, with_sectors(4, 12), &cases);
+    let cases: [Case; 2] = [(1..5, &[(1, 13), (2, 14), (1, 16)]), (2..6, &[(2, 14), (2, 16)])];
+    check_pieces(Operation::Erase, with_sectors(1, 2), &cases);
+    let cases: [Case; 1] = [(1..4, &[(1, 13), (1, 14), (1, 15)])];
+    check_pieces(Operation::Erase, with_sectors(1, 1), &cases);
 }

@@ -1,11 +1,12 @@
 //! The bench program: document 01's printed session to the byte, its cases "on fresh T", sessions of
-//! Req 01, every "?" with both sides of each limit, and random sessions.
+//! Req 01, one with bursts that are no powers of two (Req 04), every "?" with both sides of each limit,
+//! and random sessions.
 
 use model::calls::{Call, Query};
 use model::jobs::Operation;
 use model::manager::{DeviceState, Manager};
 use model::plan::Plan;
-use model::plans::{encode, largest, plan_t, plan_v, regular};
+use model::plans::{encode, largest, plan_t, plan_v, plan_w, regular};
 use model::random::Random;
 use model::segments::{pieces, Piece};
 use model::session::{run_session, Session};
@@ -133,6 +134,39 @@ fn lock_among_equal_priorities() {
             ("0 d", "R -"),
             ("10 0", "0 4 1 0 0 1"),
             ("10 1", "0 0 0 0 0 0"),
+        ],
+    );
+}
+
+/// Plan W byte for byte, written by hand from the fields and widths of document 01.
+#[rustfmt::skip]
+const PLAN_W: [u8; 66] = [
+    0x44, 0x56,  0, 0, 0, 0,  96, 0, 0, 0,  3, 0,
+    0x41, 0x52,  1, 0,  0, 0, 0, 0,  0, 0, 0, 0,  48, 0, 0, 0,
+    0x53, 0x42,  0, 0,  12, 0, 0, 0,
+    12, 0, 0, 0,  24, 0, 0, 0,  4, 0, 0, 0,  12, 0, 0, 0,  2, 0, 0, 0,  6, 0, 0, 0,
+    4, 0, 0, 0,  0, 0,
+];
+
+/// On plan W, by hand: logical 4 is physical 16, so that of the write two pages come before 24, which is
+/// a multiple of the page burst 12; of the erase a sector comes before 24, which is a multiple of the
+/// sector burst 24, and at 48, which is one too, only a sector is left.
+#[test]
+fn bursts_that_are_no_powers_of_two() {
+    assert_eq!(encode(&plan_w()), PLAN_W);
+    check(
+        &plan_w(),
+        &[
+            ("1 0 4 20", "0"),
+            ("0 d", "R 0:1:16:4"),
+            ("0 d", "R 0:1:20:4"),
+            ("0 d", "R 0:1:24:12"),
+            ("0 d", "R -"),
+            ("4 0 0 48", "0"),
+            ("0 d", "R 0:4:12:12"),
+            ("0 d", "R 0:4:24:24"),
+            ("0 d", "R 0:4:48:12"),
+            ("0 d", "R -"),
         ],
     );
 }
