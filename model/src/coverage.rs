@@ -13,6 +13,7 @@ pub use suspensions::Suspension;
 
 use crate::plan::{self, Chip, Plan};
 use crate::plans::{equals_meet, priority_count};
+use crate::plans::{some_burst_is_1, some_burst_is_no_power_of_two, some_unit_is_no_power_of_two};
 use crate::script::{Bytes, Script};
 use crate::session::{BENCH_SUM_LIMIT, LINE_LIMIT, PLAN_LIMIT};
 use follower::Follower;
@@ -33,6 +34,8 @@ pub enum Kind {
     AllMarks,
     Suspension(Suspension),
     Clearing(Clearing),
+    /// What the plan's sub-areas have.
+    Sizes(Sizes),
     /// What the image held at the start of a session on a plan that is taken.
     Image(Image),
     /// A line of this type answered with this number; 0 is accepted.
@@ -69,6 +72,16 @@ pub enum Marks {
     NoneSuspends,
     SomeSuspend,
     AllSuspend,
+}
+
+#[derive(Clone, Copy, Debug, PartialEq, Eq, PartialOrd, Ord)]
+pub enum Sizes {
+    /// Every burst is a power of two, or some is none.
+    PowerBursts,
+    OtherBurst,
+    /// Some unit is no power of two.
+    OtherUnit,
+    BurstOf1,
 }
 
 #[derive(Clone, Copy, Debug, PartialEq, Eq, PartialOrd, Ord)]
@@ -144,6 +157,7 @@ pub fn all_kinds() -> Vec<Kind> {
     kinds.extend([Marks::NoneSuspends, Marks::SomeSuspend, Marks::AllSuspend].map(Kind::Marks));
     kinds.extend(Suspension::ALL.map(Kind::Suspension));
     kinds.extend(Clearing::ALL.map(Kind::Clearing));
+    kinds.extend(Sizes::ALL.map(Kind::Sizes));
     kinds.extend((1..=8).map(|number| Kind::Plan(PlanAnswer::Refused(number))));
     kinds.extend((0..=3).map(Kind::Result));
     kinds.extend([Count::Own, Count::Above, Count::Below, Count::Locked].map(Kind::Wait));
@@ -193,6 +207,20 @@ fn all_reasons() -> Vec<Kind> {
         Reason::FieldCount,
     ];
     reasons.map(Kind::Unreadable).to_vec()
+}
+
+impl Sizes {
+    pub const ALL: [Sizes; 4] =
+        [Sizes::PowerBursts, Sizes::OtherBurst, Sizes::OtherUnit, Sizes::BurstOf1];
+
+    fn holds(self, plan: &Plan) -> bool {
+        match self {
+            Sizes::PowerBursts => !some_burst_is_no_power_of_two(plan),
+            Sizes::OtherBurst => some_burst_is_no_power_of_two(plan),
+            Sizes::OtherUnit => some_unit_is_no_power_of_two(plan),
+            Sizes::BurstOf1 => some_burst_is_1(plan),
+        }
+    }
 }
 
 impl Coverage {
@@ -259,6 +287,9 @@ impl Coverage {
         }
         if equals_meet(plan) {
             self.add_kind(Kind::Priorities(priorities(plan)));
+        }
+        for sizes in Sizes::ALL.into_iter().filter(|sizes| sizes.holds(plan)) {
+            self.add_kind(Kind::Sizes(sizes));
         }
     }
 

@@ -9,13 +9,24 @@ mod wounds;
 
 pub use enduring::enduring;
 pub use loose::loose;
-pub use small::{crowded, full, full_that_stores, small};
+pub use small::{crowded, draw_sizes, full, full_that_stores, small};
 pub use valid::valid;
 pub use wounds::{byte_changes, cuts, field_changes, wounded};
 
 use crate::plan::{Area, Chip, Device, Plan, SubArea, AREA_MARK, SUB_AREA_MARK};
 use crate::random::Random;
 use std::collections::BTreeSet;
+
+/// What the sizes of a sub-area are drawn from. A burst is so many units.
+struct Choice {
+    sectors: &'static [u32],
+    sector_bursts: &'static [u32],
+    page_bursts: &'static [u32],
+}
+
+/// Plans on average from one whose sizes are all drawn as powers of two to the next: most others have a
+/// size that is none.
+const BETWEEN_POWERS: u32 = 8;
 
 /// A number of a record as it stands in the bytes.
 #[derive(Clone, Copy)]
@@ -230,6 +241,22 @@ pub fn with_chips(mut plan: Plan, chip: Chip) -> Plan {
     plan
 }
 
+/// A sub-area with the sizes of another one, in the bytes that it had: it begins at the next multiple of
+/// the sector and has as many sectors as there is room for.
+fn resized(sub_area: &SubArea, sizes: &SubArea) -> SubArea {
+    let end = sub_area.start + sub_area.sector * sub_area.sector_count;
+    let start = sub_area.start.next_multiple_of(sizes.sector);
+    SubArea {
+        area: sub_area.area,
+        device: sub_area.device,
+        start,
+        sector_count: (end - start) / sizes.sector,
+        write_retries: sub_area.write_retries,
+        erase_retries: sub_area.erase_retries,
+        ..*sizes
+    }
+}
+
 /// Draws the mark of each device. Half of the plans have their marks dealt out in turn, so that with
 /// three devices or more all three stand in one plan. Two in three devices can suspend.
 pub fn draw_marks(random: &mut Random, plan: &mut Plan) {
@@ -253,6 +280,26 @@ pub fn equals_meet(plan: &Plan) -> bool {
 /// How many different priorities the areas have.
 pub fn priority_count(plan: &Plan) -> usize {
     plan.areas.iter().map(|area| area.priority).collect::<BTreeSet<_>>().len()
+}
+
+/// Is some sector burst or page burst of the plan no power of two?
+pub fn some_burst_is_no_power_of_two(plan: &Plan) -> bool {
+    bursts(plan).any(|burst| !burst.is_power_of_two())
+}
+
+/// Is some sector, page or smallest read of the plan no power of two?
+pub fn some_unit_is_no_power_of_two(plan: &Plan) -> bool {
+    let mut units = plan.sub_areas.iter().flat_map(|s| [s.sector, s.page, s.smallest_read]);
+    units.any(|unit| !unit.is_power_of_two())
+}
+
+/// Is some sector burst or page burst of the plan 1?
+pub fn some_burst_is_1(plan: &Plan) -> bool {
+    bursts(plan).any(|burst| burst == 1)
+}
+
+fn bursts(plan: &Plan) -> impl Iterator<Item = u32> + '_ {
+    plan.sub_areas.iter().flat_map(|s| [s.sector_burst, s.page_burst])
 }
 
 /// Bytes of each device of a regular plan.

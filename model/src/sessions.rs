@@ -17,7 +17,8 @@ pub use calls::{steps, Memory, Step};
 pub use lines::{lines, lines_of, text, Line};
 
 use crate::plan::Plan;
-use crate::plans::{draw_marks, full, largest, plan_e, plan_f, plan_t, plan_v, small, valid};
+use crate::plans::{draw_marks, draw_sizes, full, largest, small, valid};
+use crate::plans::{plan_e, plan_f, plan_t, plan_v, plan_w};
 use crate::random::Random;
 use crate::session::BENCH_SUM_LIMIT;
 
@@ -27,6 +28,9 @@ pub fn bench_plan(random: &mut Random) -> Plan {
         0 => named(random),
         1 => {
             let mut plan = largest();
+            if random.one_in(2) {
+                draw_sizes(random, &mut plan);
+            }
             draw_marks(random, &mut plan);
             plan
         }
@@ -37,10 +41,11 @@ pub fn bench_plan(random: &mut Random) -> Plan {
 }
 
 fn named(random: &mut Random) -> Plan {
-    match random.below(5) {
+    match random.below(6) {
         0 => plan_t(),
         1 => plan_v(),
-        2 => plan_e(random.pick(&[2, 3, 5])),
+        2 => plan_w(),
+        3 => plan_e(random.pick(&[2, 3, 5])),
         _ => plan_f(random.pick(&[2, 3, 5])),
     }
 }

@@ -5,7 +5,7 @@ mod mutants;
 
 use model::answers::{self, cut, Queried, Tried};
 use model::coverage::{Clearing, Coverage, Equals, Image, Kind, Marks};
-use model::coverage::{PlanAnswer, Priorities, Suspension};
+use model::coverage::{PlanAnswer, Priorities, Sizes, Suspension};
 use model::fuzz::{fuzz, Ending};
 use model::random::Random;
 use model::script::Script;
@@ -38,6 +38,7 @@ fn the_sessions_try_everything() {
     assert_order_is_tried(&coverage);
     assert_suspensions_are_tried(&coverage);
     assert_clearing_is_tried(&coverage);
+    assert_sizes_are_tried(&coverage);
 }
 
 /// On half of the plans or more the order of acceptance matters, and it decides often.
@@ -87,6 +88,18 @@ fn assert_clearing_is_tried(coverage: &Coverage) {
         };
         assert!(count >= least, "{clearing:?}: only {count}");
     }
+}
+
+/// A third of the plans or more have a burst that is no power of two, a third or more such a unit; on a
+/// tenth or more every burst is a power of two.
+fn assert_sizes_are_tried(coverage: &Coverage) {
+    let plans = coverage.count(Kind::Plan(PlanAnswer::Taken));
+    let count = |sizes: Sizes| coverage.count(Kind::Sizes(sizes));
+    let counts = Sizes::ALL.map(count);
+    assert!(3 * count(Sizes::OtherBurst) >= plans, "{counts:?} of {plans}");
+    assert!(3 * count(Sizes::OtherUnit) >= plans, "{counts:?} of {plans}");
+    assert!(10 * count(Sizes::PowerBursts) >= plans, "{counts:?} of {plans}");
+    assert!(count(Sizes::BurstOf1) >= 100, "{counts:?} of {plans}");
 }
 
 #[test]

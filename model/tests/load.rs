@@ -6,7 +6,9 @@ use model::plan::{
     load, sub_areas_apart, whole_records, windows_apart, Area, Chip, Device, Plan, SubArea,
 };
 use model::plans::{any, crowded, encode, full, loose, plan_t, small, valid};
+use model::plans::{some_burst_is_1, some_burst_is_no_power_of_two, some_unit_is_no_power_of_two};
 use model::random::Random;
+use model::sessions::{bench_plan, busy_plan};
 use std::collections::BTreeSet;
 
 fn number(bytes: &[u8]) -> u8 {
@@ -275,6 +277,38 @@ fn every_mark_is_drawn_often() {
         let wide: Vec<_> = plans.iter().filter(|plan| plan.devices.len() > 2).collect();
         let with_all = wide.iter().filter(|plan| mark_count(plan) == 3).count();
         assert!(!wide.is_empty() && 2 * with_all >= wide.len(), "{with_all} of {}", wide.len());
+    }
+}
+
+/// The bytes of a random plan.
+type Draw = fn(&mut Random) -> Vec<u8>;
+
+/// In every mix a third or more of the plans that are accepted have a burst that is no power of two, and a
+/// third or more such a unit; on a tenth or more every burst is a power of two, and bursts of 1 occur.
+#[test]
+fn sizes_of_both_kinds_are_drawn_often() {
+    let mixes: [(&str, Draw); 8] = [
+        ("any", any),
+        ("valid", |random| encode(&valid(random))),
+        ("small", |random| encode(&small(random))),
+        ("crowded", |random| encode(&crowded(random))),
+        ("full", |random| encode(&full(random))),
+        ("loose", |random| encode(&loose(random))),
+        ("bench", |random| encode(&bench_plan(random))),
+        ("busy", |random| encode(&busy_plan(random))),
+    ];
+    let mut random = Random::new(8);
+    for (name, draw) in mixes {
+        let accepted = std::iter::repeat_with(|| load(&draw(&mut random)).ok()).flatten();
+        let plans: Vec<_> = accepted.take(1_000).collect();
+        let count = |holds: Shows| plans.iter().filter(|plan| holds(plan)).count();
+        let bursts = count(some_burst_is_no_power_of_two);
+        let units = count(some_unit_is_no_power_of_two);
+        let (powers, ones) = (plans.len() - bursts, count(some_burst_is_1));
+        let counts = format!("{name}: {bursts}, {units}, {powers}, {ones} of {}", plans.len());
+        println!("bursts and units that are no powers, power bursts, bursts of 1, {counts}");
+        assert!(3 * bursts.min(units) >= plans.len(), "{counts}");
+        assert!(10 * powers >= plans.len() && ones >= 100, "{counts}");
     }
 }
 

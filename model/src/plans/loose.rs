@@ -5,12 +5,19 @@
 //! Numbers are small, so that records meet: windows and sub-areas share bytes, touch or miss by
 //! one.
 
-use super::{draw_marks, low_byte};
+use super::{draw_marks, low_byte, Choice, BETWEEN_POWERS};
 use crate::plan::{Area, Chip, Device, Plan, SubArea, LOGICAL_LIMIT, WINDOW_LIMIT};
 use crate::random::Random;
 
-/// Every sub-area fits in a cell, and devices that question 3 lets pass are whole cells.
-const CELL: u32 = 8;
+/// Every sub-area fits in a cell, and devices that question 3 lets pass are whole cells. It is a multiple
+/// of every sector, also of those that are no powers of two.
+const CELL: u32 = 12;
+
+const ANY_SIZES: Choice =
+    Choice { sectors: &[1, 2, 3, 4, 6, 12], sector_bursts: &[1, 2, 3], page_bursts: &[1, 2, 3] };
+
+const POWERS_OF_TWO: Choice =
+    Choice { sectors: &[1, 2, 4], sector_bursts: &[1, 2], page_bursts: &[1, 2] };
 
 pub fn loose(random: &mut Random) -> Plan {
     // The later questions are drawn more often, since fewer plans get as far.
@@ -22,8 +29,9 @@ pub fn loose(random: &mut Random) -> Plan {
     }
     let area_count = count(random, loose_from, 8);
     plan.areas = (0..area_count).map(|number| area(random, loose_from, number)).collect();
+    let choice = if random.one_in(BETWEEN_POWERS) { &POWERS_OF_TWO } else { &ANY_SIZES };
     for number in area_numbers(random, loose_from, area_count) {
-        let sub_area = sub_area(random, loose_from, &plan.devices, number);
+        let sub_area = sub_area(random, loose_from, choice, &plan.devices, number);
         plan.sub_areas.push(sub_area);
     }
     draw_marks(random, &mut plan);
@@ -89,8 +97,14 @@ fn area_numbers(random: &mut Random, loose_from: u8, area_count: u32) -> Vec<u32
 
 /// Question 6 for the place. The sub-areas of one device often fall into one cell, so that question
 /// 8 is asked of plans with and without shared bytes.
-fn sub_area(random: &mut Random, loose_from: u8, devices: &[Device], area: u32) -> SubArea {
-    let mut sub_area = sizes(random, loose_from);
+fn sub_area(
+    random: &mut Random,
+    loose_from: u8,
+    choice: &Choice,
+    devices: &[Device],
+    area: u32,
+) -> SubArea {
+    let mut sub_area = sizes(random, loose_from, choice);
     sub_area.area = low_byte(area);
     if devices.is_empty() {
         return sub_area;
@@ -110,16 +124,16 @@ fn sub_area(random: &mut Random, loose_from: u8, devices: &[Device], area: u32) 
 }
 
 /// Question 5: sizes of at most a cell.
-fn sizes(random: &mut Random, loose_from: u8) -> SubArea {
-    let sector = random.pick(&[1, 2, 4, 8]);
+fn sizes(random: &mut Random, loose_from: u8, choice: &Choice) -> SubArea {
+    let sector = random.pick(choice.sectors);
     let mut sub_area = SubArea {
         area: 0,
         device: 0,
         start: 0,
         sector,
-        sector_burst: sector * random.between(1, 3),
+        sector_burst: sector * random.pick(choice.sector_bursts),
         page: sector,
-        page_burst: sector * random.between(1, 3),
+        page_burst: sector * random.pick(choice.page_bursts),
         smallest_read: 1,
         largest_read: random.between(1, 16),
         sector_count: random.between(1, CELL / sector),

@@ -2,9 +2,15 @@
 //! few rounds jobs end, requests are dropped and tried again, and areas stand in each other's way.
 
 use super::valid::{divisor, spread_over_areas};
-use super::{draw_marks, low_byte};
+use super::{draw_marks, low_byte, resized, Choice, BETWEEN_POWERS};
 use crate::plan::{Area, Chip, Device, Plan, SubArea, LOGICAL_LIMIT};
 use crate::random::Random;
+
+const ANY_SIZES: Choice =
+    Choice { sectors: &[1, 2, 3, 4, 6, 8], sector_bursts: &[1, 2, 3], page_bursts: &[1, 2, 3, 4] };
+
+const POWERS_OF_TWO: Choice =
+    Choice { sectors: &[1, 2, 4, 8], sector_bursts: &[1, 2, 4], page_bursts: &[1, 2, 4] };
 
 pub fn small(random: &mut Random) -> Plan {
     if random.one_in(3) {
@@ -48,7 +54,7 @@ pub fn full(random: &mut Random) -> Plan {
 /// The same without chips that only clear bits. The benchmark's sessions run on it: they are to stay
 /// as they are.
 pub fn full_that_stores(random: &mut Random) -> Plan {
-    let mut plan = unmarked(random, 4, 8, 32);
+    let mut plan = unmarked(random, &ANY_SIZES, [4, 8, 32]);
     for device in &mut plan.devices {
         device.chip = if random.one_in(3) { Chip::Plain } else { Chip::Suspending };
     }
@@ -56,14 +62,16 @@ pub fn full_that_stores(random: &mut Random) -> Plan {
 }
 
 fn of_counts(random: &mut Random, device_count: u32, area_count: u32, sub_area_count: u32) -> Plan {
-    let mut plan = unmarked(random, device_count, area_count, sub_area_count);
+    let choice = if random.one_in(BETWEEN_POWERS) { &POWERS_OF_TWO } else { &ANY_SIZES };
+    let mut plan = unmarked(random, choice, [device_count, area_count, sub_area_count]);
     draw_marks(random, &mut plan);
     plan
 }
 
-/// With plain chips.
-fn unmarked(random: &mut Random, device_count: u32, area_count: u32, sub_area_count: u32) -> Plan {
-    let mut plan = image_layout(random, device_count, sub_area_count);
+/// Of so many devices, areas and sub-areas, with plain chips.
+fn unmarked(random: &mut Random, choice: &Choice, counts: [u32; 3]) -> Plan {
+    let [device_count, area_count, sub_area_count] = counts;
+    let mut plan = image_layout(random, choice, device_count, sub_area_count);
     // Mixed, the sub-areas of an area lie on several devices, some of them again and again.
     random.shuffle(&mut plan.sub_areas);
     spread_over_areas(random, area_count, &mut plan.sub_areas);
@@ -72,14 +80,19 @@ fn unmarked(random: &mut Random, device_count: u32, area_count: u32, sub_area_co
 }
 
 /// Devices joined from 0 on and, on each, sub-areas from its start upwards.
-fn image_layout(random: &mut Random, device_count: u32, sub_area_count: u32) -> Plan {
+fn image_layout(
+    random: &mut Random,
+    choice: &Choice,
+    device_count: u32,
+    sub_area_count: u32,
+) -> Plan {
     let homes: Vec<_> = (0..sub_area_count).map(|_| random.below(device_count)).collect();
     let mut plan = Plan::default();
     let mut end = 0;
     for device in 0..device_count {
         let start = end;
         for _ in homes.iter().filter(|home| **home == device) {
-            let sub_area = sub_area_from(random, end, device);
+            let sub_area = sub_area_from(random, choice, end, device);
             end = sub_area.start + sub_area.sector * sub_area.sector_count;
             plan.sub_areas.push(sub_area);
         }
@@ -91,18 +104,31 @@ fn image_layout(random: &mut Random, device_count: u32, sub_area_count: u32) -> 
     plan
 }
 
-fn sub_area_from(random: &mut Random, end: u32, device: u32) -> SubArea {
-    let sector = random.pick(&[1, 2, 3, 4, 6, 8]);
+fn sub_area_from(random: &mut Random, choice: &Choice, end: u32, device: u32) -> SubArea {
+    let sub_area = sub_area_of(random, choice);
+    SubArea { device: low_byte(device), start: end.next_multiple_of(sub_area.sector), ..sub_area }
+}
+
+/// Draws other sizes for every sub-area, in the bytes that it has: it needs 15 of them.
+pub fn draw_sizes(random: &mut Random, plan: &mut Plan) {
+    for sub_area in &mut plan.sub_areas {
+        *sub_area = resized(sub_area, &sub_area_of(random, &ANY_SIZES));
+    }
+}
+
+/// A sub-area at physical address 0.
+fn sub_area_of(random: &mut Random, choice: &Choice) -> SubArea {
+    let sector = random.pick(choice.sectors);
     let page = divisor(random, sector);
     let smallest_read = divisor(random, sector);
     SubArea {
         area: 0,
-        device: low_byte(device),
-        start: end.next_multiple_of(sector),
+        device: 0,
+        start: 0,
         sector,
-        sector_burst: sector * random.between(1, 3),
+        sector_burst: sector * random.pick(choice.sector_bursts),
         page,
-        page_burst: page * random.between(1, 4),
+        page_burst: page * random.pick(choice.page_bursts),
         smallest_read,
         largest_read: smallest_read * random.between(1, 4),
         sector_count: random.between(1, 4),

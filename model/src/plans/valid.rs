@@ -1,16 +1,20 @@
 //! Random plans that every question accepts. The draws favour the limits: they are where a wrong
 //! comparison shows.
 
-use super::{draw_marks, low_byte, low_two_bytes};
+use super::{draw_marks, low_byte, low_two_bytes, BETWEEN_POWERS};
 use crate::plan::{Area, Chip, Device, Plan, SubArea};
 use crate::plan::{DEVICE_SUM_LIMIT, LOGICAL_LIMIT, WINDOW_LIMIT};
 use crate::random::Random;
+
+/// Draws a number from 1 to so much.
+type Draw = fn(&mut Random, u32) -> u32;
 
 pub fn valid(random: &mut Random) -> Plan {
     let device_count = count(random, 4);
     let sub_area_count = count(random, 32);
     let area_count = count(random, sub_area_count.min(8));
-    let mut plan = image_layout(random, device_count, sub_area_count);
+    let size: Draw = if random.one_in(BETWEEN_POWERS) { power_up_to } else { number_up_to };
+    let mut plan = image_layout(random, size, device_count, sub_area_count);
     if random.one_in(4) {
         fill_image(random, &mut plan);
     }
@@ -37,7 +41,7 @@ fn count(random: &mut Random, most: u32) -> u32 {
 ///
 /// Each sub-area, with the gap before it, and each device's rest take at most `room` bytes, so the
 /// sum of lengths keeps to its limit.
-fn image_layout(random: &mut Random, device_count: u32, sub_area_count: u32) -> Plan {
+fn image_layout(random: &mut Random, size: Draw, device_count: u32, sub_area_count: u32) -> Plan {
     let most_room = DEVICE_SUM_LIMIT / (device_count + sub_area_count);
     let room = random.pick(&[16, 64, 1_024, most_room]);
     let mut homes: Vec<_> = (0..sub_area_count).map(|_| random.below(device_count)).collect();
@@ -47,7 +51,7 @@ fn image_layout(random: &mut Random, device_count: u32, sub_area_count: u32) -> 
     for device in 0..device_count {
         let start = end;
         for _ in homes.iter().filter(|home| **home == device) {
-            let sub_area = sub_area_from(random, end, device, room);
+            let sub_area = sub_area_from(random, size, end, device, room);
             end = sub_area.start + sub_area.sector * sub_area.sector_count;
             plan.sub_areas.push(sub_area);
         }
@@ -61,8 +65,10 @@ fn image_layout(random: &mut Random, device_count: u32, sub_area_count: u32) -> 
 
 /// A sub-area that begins at `end` or, with a gap, behind it. Gap, rounding up to a sector and
 /// bytes together are at most `room`.
-fn sub_area_from(random: &mut Random, end: u32, device: u32, room: u32) -> SubArea {
-    let sector = number_up_to(random, room / 4);
+fn sub_area_from(random: &mut Random, size: Draw, end: u32, device: u32, room: u32) -> SubArea {
+    // Up to the largest that a field holds: a burst may exceed its sub-area.
+    let multiple = |random: &mut Random, unit: u32| unit * size(random, u32::MAX / unit);
+    let sector = size(random, room / 4);
     let page = divisor(random, sector);
     let smallest_read = divisor(random, sector);
     let gap = if random.one_in(3) { random.between(1, room / 4) } else { 0 };
@@ -167,8 +173,13 @@ fn number_up_to(random: &mut Random, most: u32) -> u32 {
         1 => most,
         2 => random.between(1, most),
         3 => random.between(1, most.min(4)),
-        _ => 1 << random.between(0, most.ilog2()),
+        _ => power_up_to(random, most),
     }
+}
+
+/// A power of two from 1 to `most`.
+fn power_up_to(random: &mut Random, most: u32) -> u32 {
+    1 << random.between(0, most.ilog2())
 }
 
 /// A divisor of `number`: 1, the number itself or one between.
@@ -186,11 +197,6 @@ fn greatest_common_divisor(a: u32, b: u32) -> u32 {
         0 => a,
         _ => greatest_common_divisor(b, a % b),
     }
-}
-
-/// A multiple of `unit`, up to the largest that a field holds: a burst may exceed its sub-area.
-fn multiple(random: &mut Random, unit: u32) -> u32 {
-    unit * number_up_to(random, u32::MAX / unit)
 }
 
 fn patience(random: &mut Random) -> u16 {
