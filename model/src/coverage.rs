@@ -1,12 +1,14 @@
 //! What sessions tried, told from their lines and what they printed: shows, and lets tests assert,
 //! that no kind of line, refusal, answer or result went untried, nor the order of acceptance, nor the
-//! erases that give way, nor the writes on chips that only clear bits.
+//! erases that give way, nor the writes on chips that only clear bits, nor the burst test.
 
+mod bursts;
 mod clearing;
 mod equals;
 mod follower;
 mod suspensions;
 
+pub use bursts::{BurstSize, BurstTest};
 pub use clearing::Clearing;
 pub use equals::Equals;
 pub use suspensions::Suspension;
@@ -36,6 +38,8 @@ pub enum Kind {
     Clearing(Clearing),
     /// What the plan's sub-areas have.
     Sizes(Sizes),
+    /// A request with such a burst was cut so.
+    Burst(BurstSize, BurstTest),
     /// What the image held at the start of a session on a plan that is taken.
     Image(Image),
     /// A line of this type answered with this number; 0 is accepted.
@@ -158,6 +162,7 @@ pub fn all_kinds() -> Vec<Kind> {
     kinds.extend(Suspension::ALL.map(Kind::Suspension));
     kinds.extend(Clearing::ALL.map(Kind::Clearing));
     kinds.extend(Sizes::ALL.map(Kind::Sizes));
+    kinds.extend(all_bursts());
     kinds.extend((1..=8).map(|number| Kind::Plan(PlanAnswer::Refused(number))));
     kinds.extend((0..=3).map(Kind::Result));
     kinds.extend([Count::Own, Count::Above, Count::Below, Count::Locked].map(Kind::Wait));
@@ -194,6 +199,11 @@ fn all_answers() -> Vec<Kind> {
         Answer::FailedBehind,
     ];
     JOB_TYPES.iter().flat_map(|job_type| answers.map(|a| Kind::Answer(*job_type, a))).collect()
+}
+
+fn all_bursts() -> Vec<Kind> {
+    let kinds = |size: BurstSize| BurstTest::ALL.map(|test| Kind::Burst(size, test));
+    BurstSize::ALL.into_iter().flat_map(kinds).collect()
 }
 
 fn all_reasons() -> Vec<Kind> {
@@ -259,7 +269,7 @@ impl Coverage {
     }
 
     /// What a session on a plan that is taken tried of the order of acceptance, of erases that give
-    /// way and of writes on chips that only clear bits.
+    /// way, of writes on chips that only clear bits and of the burst test.
     fn add_jobs(&mut self, script: &Script, output: &[u8]) {
         let plan = plan::load(&script.plan).expect("the plan is taken");
         self.add_plan(&plan);

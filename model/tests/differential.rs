@@ -4,13 +4,15 @@
 mod mutants;
 
 use model::answers::{self, cut, Queried, Tried};
-use model::coverage::{Clearing, Coverage, Equals, Image, Kind, Marks};
+use model::coverage::{BurstSize, BurstTest, Clearing, Coverage, Equals, Image, Kind, Marks};
 use model::coverage::{PlanAnswer, Priorities, Sizes, Suspension};
 use model::fuzz::{fuzz, Ending};
+use model::plan::Plan;
+use model::plans::{encode, plan_t, plan_w};
 use model::random::Random;
-use model::script::Script;
+use model::script::{Lending, Script};
 use model::shrink::{report, smallest};
-use model::subject::{compare, Model, Subject};
+use model::subject::{compare, play, Model, Subject};
 use std::path::Path;
 use std::time::Duration;
 
@@ -39,6 +41,7 @@ fn the_sessions_try_everything() {
     assert_suspensions_are_tried(&coverage);
     assert_clearing_is_tried(&coverage);
     assert_sizes_are_tried(&coverage);
+    assert_bursts_are_tried(&coverage);
 }
 
 /// On half of the plans or more the order of acceptance matters, and it decides often.
@@ -100,6 +103,49 @@ fn assert_sizes_are_tried(coverage: &Coverage) {
     assert!(3 * count(Sizes::OtherUnit) >= plans, "{counts:?} of {plans}");
     assert!(10 * count(Sizes::PowerBursts) >= plans, "{counts:?} of {plans}");
     assert!(count(Sizes::BurstOf1) >= 100, "{counts:?} of {plans}");
+}
+
+/// How often bursts of a size were cut in each way.
+fn burst_counts(coverage: &Coverage, size: BurstSize) -> [u64; 4] {
+    BurstTest::ALL.map(|test| coverage.count(Kind::Burst(size, test)))
+}
+
+/// Bursts of both sizes are taken often and not taken often, and often so that a wrong mask would show.
+fn assert_bursts_are_tried(coverage: &Coverage) {
+    for size in BurstSize::ALL {
+        let counts @ [taken, not_taken, says_yes, says_no] = burst_counts(coverage, size);
+        assert!(taken >= 600 && not_taken >= 600, "{size:?}: {counts:?}");
+        assert!(says_yes >= 200 && says_no >= 200, "{size:?}: {counts:?}");
+    }
+}
+
+/// Bursts that are powers of two, and others, in a session on a plan.
+fn bursts_of(plan: &Plan, lines: &[&str]) -> [[u64; 4]; 2] {
+    let plan = encode(plan);
+    let script = Script {
+        lines: lines.iter().map(|line| line.as_bytes().to_vec()).collect(),
+        is_last_ended: true,
+        lending: Lending::bench(&plan),
+        plan,
+    };
+    let mut coverage = Coverage::default();
+    coverage.add(&script, &play(&mut Model, &script).output);
+    BurstSize::ALL.map(|size| burst_counts(&coverage, size))
+}
+
+/// By hand. On plan T 4 at 4 and 8 at 8, which runs on and is tried again: 4 & 8 is 0, 8 & 8 is not. On plan
+/// W a write of 4 at 16, 4 at 20 and 12 at 24: 16 & 11 and 20 & 11 are 0, 24 & 11 is not; and an erase of 12
+/// at 12, 24 at 24 and 12 at 48, where too few bytes are left: 12 & 23 and 24 & 23 are not 0.
+#[test]
+fn burst_tests_are_counted() {
+    let on_t = bursts_of(&plan_t(), &["1 0 4 12", "0 d", "0 d", "0 p", "0 0", "0 d"]);
+    assert_eq!(on_t, [[2, 1, 1, 2], [0; 4]]);
+    let write = bursts_of(&plan_w(), &["1 0 4 20", "0 d", "0 d", "0 d", "0 d"]);
+    assert_eq!(write, [[0; 4], [1, 2, 2, 1]]);
+    let erase = bursts_of(&plan_w(), &["4 0 0 48", "0 d", "0 d", "0 d", "0 d"]);
+    assert_eq!(erase, [[0; 4], [1, 2, 0, 1]]);
+    let read = bursts_of(&plan_w(), &["2 0 0 48", "0 d", "0 d", "0 d", "0 d"]);
+    assert_eq!(read, [[0; 4]; 2]);
 }
 
 #[test]

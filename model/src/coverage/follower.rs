@@ -4,7 +4,7 @@
 //! shown, and between a piece that was done and the next one that is shown. Polls, suspended erases and
 //! the bytes that were written are known from what is shown and answered.
 
-use super::{clearing, equals, suspensions};
+use super::{bursts, clearing, equals, suspensions};
 use super::{fields, number, Kind};
 use crate::jobs::Operation;
 use crate::plan::Plan;
@@ -88,6 +88,12 @@ impl Shown {
 }
 
 impl Accepted {
+    /// How many of its bytes have these physical addresses. They are in one sub-area.
+    pub(super) fn bytes_in(&self, addresses: Range<u64>) -> u64 {
+        let pieces = self.pieces.iter().filter(|piece| addresses.contains(&piece.start));
+        pieces.map(|piece| piece.length).sum()
+    }
+
     /// The device of the piece behind this one, if the job surely goes on to it.
     fn device_behind(&self, done: u64) -> Option<usize> {
         let is_check = matches!(self.operation, Some(Operation::Compare | Operation::BlankCheck));
@@ -182,6 +188,7 @@ impl<'a> Follower<'a> {
             came_up.extend(of_equals.into_iter().map(Kind::Equals));
             came_up.extend(suspensions::came_up(self, device, shown, change));
             came_up.extend(clearing::came_up(self, device, words[device], change));
+            came_up.extend(bursts::came_up(self, shown, change));
             self.follow_bytes(device, words[device]);
             self.follow(device, shown, change);
         }
