@@ -156,11 +156,17 @@ fn every_mutant_is_found() {
     }
 }
 
-/// What is found of the mutants of the order, of those of erases that give way, and of those of writes
-/// that leave other bytes, is not owed to the way they are made.
+/// What is found of the mutants of the order, of those of erases that give way, of those of writes that
+/// leave other bytes, and of those of jobs that are cut otherwise, is not owed to the way they are made.
 #[test]
 fn what_is_right_is_not_found() {
-    for mut right in [mutants::right_order(), mutants::no_flaw(), mutants::right_writes()] {
+    let right_ones = [
+        mutants::right_order(),
+        mutants::no_flaw(),
+        mutants::right_writes(),
+        mutants::right_cuts(),
+    ];
+    for mut right in right_ones {
         let found = first_difference(&mut right, 62, SESSIONS / 4);
         assert_eq!(found, None, "{}", right.name);
     }

@@ -7,7 +7,6 @@ use model::manager::{DeviceState, Manager, Request};
 use model::plan::Chip;
 use model::segments::index;
 use model::session::{call_of, Session};
-use model::subject::{Model, Subject};
 
 /// A byte that a write has acted on.
 #[derive(Clone, Copy)]
@@ -41,33 +40,17 @@ pub fn stored_if(holds: bool, write: &Write) -> u8 {
     }
 }
 
-/// A session whose writes leave this.
-pub fn session(
-    leaves: Leaves,
-    plan: &[u8],
-    input: &[u8],
-    image: &mut [u8],
-    store: &mut [u8],
-) -> Vec<u8> {
-    let Ok(mut session) = Session::lent(plan, image.to_vec(), store.to_vec()) else {
-        return Model.session(plan, input, image, store);
-    };
-    let mut output = Vec::new();
-    for line in input.split_inclusive(|byte| *byte == b'\n') {
-        let line = line.strip_suffix(b"\n").unwrap_or(line);
-        let before = Before { manager: session.manager.clone(), image: session.image.clone() };
-        let answer = session.answer(line);
-        match call_of(line, before.manager.plan().devices.len()) {
-            Some(Call::Round(answers)) if answer.starts_with('R') => {
-                before.set_bytes(leaves, answers, &mut session);
-            }
-            _ => {}
+/// The answer to a line of a session whose writes leave this.
+pub fn answer(session: &mut Session, line: &[u8], leaves: Leaves) -> String {
+    let before = Before { manager: session.manager.clone(), image: session.image.clone() };
+    let answer = session.answer(line);
+    match call_of(line, before.manager.plan().devices.len()) {
+        Some(Call::Round(answers)) if answer.starts_with('R') => {
+            before.set_bytes(leaves, answers, session);
         }
-        output.extend((answer + "\n").into_bytes());
+        _ => {}
     }
-    image.copy_from_slice(&session.image);
-    store.copy_from_slice(&session.store);
-    output
+    answer
 }
 
 /// What a round met.

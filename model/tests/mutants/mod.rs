@@ -1,17 +1,21 @@
 //! Subjects that are wrong on purpose: the model with its plan, its lines or its output changed on
-//! the way, with another order of acceptance, with erases that give way wrongly, or with writes that
-//! leave other bytes; and answers to queries that are wrong (`queries`). The comparison must find each
-//! of them.
+//! the way, with another order of acceptance, with erases that give way wrongly, with writes that
+//! leave other bytes, or with jobs that are cut otherwise; and answers to queries that are wrong
+//! (`queries`). The comparison must find each of them.
 
 mod clearing;
+mod cutting;
 mod order;
 pub mod queries;
 mod suspension;
 
 use clearing::{right_byte, stored_if};
+use cutting::right_rule;
+use model::jobs::Operation;
 use model::manager::{DeviceState, Manager, Request};
 use model::plan::{self, Chip, Plan};
 use model::plans::encode;
+use model::session::Session;
 use model::subject::{Model, Subject};
 use order::{Event, Places};
 use suspension::Flaw;
@@ -36,6 +40,27 @@ impl Subject for Mutant {
     }
 }
 
+/// A session on the model whose lines another hand answers.
+fn with_answers(
+    plan: &[u8],
+    input: &[u8],
+    image: &mut [u8],
+    store: &mut [u8],
+    answer: impl Fn(&mut Session, &[u8]) -> String,
+) -> Vec<u8> {
+    let Ok(mut session) = Session::lent(plan, image.to_vec(), store.to_vec()) else {
+        return Model.session(plan, input, image, store);
+    };
+    let mut output = Vec::new();
+    for line in input.split_inclusive(|byte| *byte == b'\n') {
+        let answer = answer(&mut session, line.strip_suffix(b"\n").unwrap_or(line));
+        output.extend((answer + "\n").into_bytes());
+    }
+    image.copy_from_slice(&session.image);
+    store.copy_from_slice(&session.store);
+    output
+}
+
 /// Makes a mutant of a keeper of the order.
 macro_rules! order_mutant {
     ($name:expr, $keeper:expr) => {
@@ -58,6 +83,7 @@ pub fn all() -> Vec<Mutant> {
     all.extend(of_suspended_polls());
     all.extend(of_suspended_jobs());
     all.extend(of_clearing());
+    all.extend(of_cutting());
     all
 }
 
@@ -509,7 +535,9 @@ macro_rules! byte_mutant {
         Mutant {
             name: $name,
             session: |plan, input, image, store| {
-                clearing::session($leaves, plan, input, image, store)
+                with_answers(plan, input, image, store, |session, line| {
+                    clearing::answer(session, line, $leaves)
+                })
             },
         }
     };
@@ -540,5 +568,55 @@ fn of_clearing() -> Vec<Mutant> {
             "chips that only clear bits do not suspend",
             Flaw::Stays(|scene| scene.may_give_way() && scene.chip.only_clears())
         ),
+    ]
+}
+
+/// Makes a mutant of a rule by which writes and erases are cut.
+macro_rules! cut_mutant {
+    ($name:expr, $rule:expr) => {
+        Mutant {
+            name: $name,
+            session: |plan, input, image, store| {
+                with_answers(plan, input, image, store, |session, line| {
+                    cutting::answer(session, line, $rule)
+                })
+            },
+        }
+    };
+}
+
+/// No mutant: the burst test is made by another hand, but as the rules have it.
+pub fn right_cuts() -> Mutant {
+    cut_mutant!("the right cuts", right_rule)
+}
+
+/// When a piece is a burst.
+fn of_cutting() -> Vec<Mutant> {
+    vec![
+        cut_mutant!("page bursts of any size are masked", |due| match due.operation {
+            Operation::Write => due.is_0_under(due.burst - 1),
+            _ => right_rule(due),
+        }),
+        cut_mutant!("sector bursts of any size are masked", |due| match due.operation {
+            Operation::Erase => due.is_0_under(due.burst - 1),
+            _ => right_rule(due),
+        }),
+        cut_mutant!("powers of two are masks themselves", |due| {
+            if due.burst.is_power_of_two() {
+                due.is_0_under(due.burst)
+            } else {
+                right_rule(due)
+            }
+        }),
+        cut_mutant!("bursts that are no powers of two are not taken", |due| {
+            due.burst.is_power_of_two() && right_rule(due)
+        }),
+        cut_mutant!("bursts are tested on the logical address", |due| {
+            due.logical.is_multiple_of(due.burst)
+        }),
+        cut_mutant!("bursts that are multiples of the address", |due| {
+            due.burst.is_multiple_of(due.physical)
+        }),
+        cut_mutant!("the last burst is not taken", |due| due.left > due.burst && right_rule(due)),
     ]
 }
