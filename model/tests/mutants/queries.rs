@@ -119,11 +119,11 @@ fn set_memory_info(answers: &mut Answers, change: &dyn Fn(&mut [u32; MEMORY_INFO
     };
 }
 
+/// Changes the fields of an accepted info.
+type Set<const COUNT: usize> = fn(&mut Answers, &dyn Fn(&mut [u32; COUNT]));
+
 /// Each field left out, and each two exchanged.
-fn of_fields<const COUNT: usize>(
-    info: &str,
-    set: fn(&mut Answers, &dyn Fn(&mut [u32; COUNT])),
-) -> Vec<WrongAnswers> {
+fn of_fields<const COUNT: usize>(info: &str, set: Set<COUNT>) -> Vec<WrongAnswers> {
     let left_out = (0..COUNT).map(|field| {
         wrong(format!("{info} without field {field}"), move |_, _, answers| {
             set(answers, &|fields| fields[field] = 0);
