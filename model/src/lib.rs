@@ -29,7 +29,7 @@
 //! - [`shrink`]: the smallest session that still shows a difference, and its report;
 //! - [`fuzz`]: sessions of ever new seeds;
 //! - [`histogram`]: how often each number came up;
-//! - [`loops`]: calls in loops, as the benchmarks time them;
+//! - [`loops`]: calls, burst tests and cuts in loops, as the benchmarks time them;
 //! - [`race`]: several ways to the same sum, timed in turn;
 //! - `proved`: the proved library, called through its C interface (feature `proved`).
 

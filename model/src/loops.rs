@@ -1,14 +1,17 @@
 //! The loops of the timing library on the model: for the benchmarks, and for the test that compares
 //! what they answer. Calls take the areas 0 to 7 in turn; a job covers so many bytes from logical
-//! address 0 on.
+//! address 0 on. Of the cutting alone there are two loops more: the burst test, and the pieces of a job.
 //!
 //! Every call is really made in every turn. The compiler sees through a call that it can inline: a
 //! refused one leaves the manager as it was, so that questions may be answered once before the loop, and
 //! of job info only the field that is summed may be left. So a call is a function that is not inlined,
-//! the manager and the arguments pass through `black_box` in each turn, and so does a whole answer.
+//! the manager and the arguments pass through `black_box` in each turn, and so does a whole answer. A
+//! piece is cut in the same way. Of the burst tests only the lists pass through it: their sum takes each.
 
 use crate::jobs::{Answer, JobType};
 use crate::manager::Manager;
+use crate::plan::Plan;
+use crate::segments;
 use std::hint::black_box;
 
 /// A job that every area is asked for.
@@ -91,4 +94,40 @@ pub fn rounds(
     });
     let processed = (0..AREAS).map(|area| u64::from(manager.processed(area).unwrap_or(0)));
     numbers + processed.sum::<u64>()
+}
+
+/// Of the pairs of a size and an address, as many as the shorter list has: in how many the address is a
+/// multiple of the size. 0 alone is a multiple of 0.
+pub fn burst_tests(sizes: &[u64], addresses: &[u64]) -> u64 {
+    let pairs = black_box(sizes).iter().zip(black_box(addresses));
+    pairs.map(|(size, address)| u64::from(address.is_multiple_of(*size))).sum()
+}
+
+/// The length of the piece that is due in area 0 once so many bytes of the job are done; 0 if there is
+/// none: a lock request has none, nor has a plan without areas.
+#[inline(never)]
+fn cut(plan: &Plan, request: Request, processed: u64) -> u64 {
+    let JobType::Operation(operation) = request.job_type else {
+        return 0;
+    };
+    if plan.areas.is_empty() {
+        return 0;
+    }
+    let rest = processed..u64::from(request.length);
+    black_box(segments::next_piece(plan, operation, 0, rest)).map_or(0, |piece| piece.length)
+}
+
+/// Pieces of a job of area 0, whether or not the area would accept it, one after the other. Behind the
+/// last one the job begins anew; where there is none it stays where it is. The sum of the bytes that are
+/// done after each turn, 0 after one in which the job ends.
+pub fn cuts(plan: &Plan, request: Request, times: u32) -> u64 {
+    let (mut processed, mut sum) = (0, 0);
+    for _ in 0..times {
+        processed += cut(black_box(plan), black_box(request), black_box(processed));
+        if processed >= u64::from(request.length) {
+            processed = 0;
+        }
+        sum += processed;
+    }
+    sum
 }

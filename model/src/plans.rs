@@ -241,6 +241,12 @@ pub fn with_chips(mut plan: Plan, chip: Chip) -> Plan {
     plan
 }
 
+/// The plan with the sizes of one sub-area in all of them.
+pub fn with_sizes(mut plan: Plan, sizes: &SubArea) -> Plan {
+    plan.sub_areas.iter_mut().for_each(|sub_area| *sub_area = resized(sub_area, sizes));
+    plan
+}
+
 /// A sub-area with the sizes of another one, in the bytes that it had: it begins at the next multiple of
 /// the sector and has as many sectors as there is room for.
 fn resized(sub_area: &SubArea, sizes: &SubArea) -> SubArea {

@@ -1,5 +1,6 @@
 //! The loops of the timing library, in each of their forms, against the same loops on the model:
-//! numbers, lengths, image and store, on plans of all kinds and with memory of wrong lengths.
+//! numbers, lengths, image and store, on plans of all kinds and with memory of wrong lengths; burst tests
+//! on sizes and addresses of 64 bits, and pieces cut on plans of all kinds.
 #![cfg(feature = "timing")]
 
 use model::admission::furthest_window_end;
@@ -22,11 +23,19 @@ fn drawn_plan(random: &mut Random) -> Vec<u8> {
     }
 }
 
+fn drawn_operation(random: &mut Random) -> JobType {
+    JobType::Operation(random.pick(&Operation::ALL))
+}
+
+fn drawn_length(random: &mut Random) -> u32 {
+    random.pick(&[0, 1, 2, 3, 4, 6, 8, 8, 12, 16, 16, 24, 32, 64, u32::MAX])
+}
+
 fn drawn_request(random: &mut Random) -> Request {
-    let operation = JobType::Operation(random.pick(&Operation::ALL));
+    let operation = drawn_operation(random);
     Request {
         job_type: random.pick(&[operation, operation, operation, JobType::LockRequest]),
-        length: random.pick(&[0, 1, 2, 3, 4, 6, 8, 8, 12, 16, 16, 24, 32, 64, u32::MAX]),
+        length: drawn_length(random),
     }
 }
 
@@ -114,4 +123,94 @@ fn rounds_in_loops() {
     }
     println!("{}", numbers.of("first rounds"));
     assert!([0, 9, 18, 19].iter().all(|number| numbers.count(*number) > 500), "{numbers}");
+}
+
+/// Powers of two and their neighbours, three times a power, small numbers, 0, 1 and the greatest.
+fn drawn_size(random: &mut Random) -> u64 {
+    let power = 1 << random.below(64);
+    match random.below(12) {
+        0..=4 => power,
+        5 => power - 1,
+        6 => power + 1,
+        7..=8 => 3 << random.below(63),
+        9..=10 => random.between(2, 100).into(),
+        _ => random.pick(&[0, 1, u64::MAX]),
+    }
+}
+
+/// 0, a multiple of the size, a neighbour of one, a multiple of half the size, or any.
+fn drawn_address(random: &mut Random, size: u64) -> u64 {
+    let most = u64::MAX.checked_div(size).unwrap_or(0);
+    let times = most.min(random.bits() >> random.below(64));
+    match random.below(12) {
+        0 => 0,
+        1..=5 => size * times,
+        6 => (size * times).wrapping_add(1),
+        7 => (size * times).wrapping_sub(1),
+        8..=9 => size / 2 * times,
+        _ => random.bits(),
+    }
+}
+
+/// Lists of one pair too, so that no wrong answer is made up for by another.
+#[test]
+fn burst_tests_in_loops() {
+    let mut random = Random::new(93);
+    // Sizes that are no powers of two and those that are, with the answers no and yes of each.
+    let mut answers = [[0; 2]; 2];
+    for _ in 0..PLANS {
+        let pairs = random.pick(&[1, 1, 2, 5, 40]);
+        let mut sizes: Vec<_> = (0..pairs).map(|_| drawn_size(&mut random)).collect();
+        let mut addresses: Vec<_> =
+            sizes.iter().map(|size| drawn_address(&mut random, *size)).collect();
+        match random.below(4) {
+            0 => sizes.truncate(random.index(sizes.len() + 1)),
+            1 => addresses.truncate(random.index(addresses.len() + 1)),
+            _ => {}
+        }
+        for (size, address) in sizes.iter().zip(&addresses) {
+            let answer = usize::from(address.is_multiple_of(*size));
+            answers[usize::from(size.is_power_of_two())][answer] += 1;
+        }
+        let model = loops::burst_tests(&sizes, &addresses);
+        assert_eq!(timing::burst_tests(&sizes, &addresses), model, "{sizes:?} {addresses:?}");
+    }
+    println!("no powers and powers, answers no and yes: {answers:?}");
+    assert!(answers.iter().flatten().all(|count| *count >= 10_000), "{answers:?}");
+}
+
+/// The plan with its area 0 at logical address 0, where the cutting begins, and the area's size; as it is
+/// and 0 if it is refused.
+fn with_area_0_in_place(bytes: Vec<u8>) -> (Vec<u8>, u32) {
+    match plan::load(&bytes) {
+        Ok(mut plan) => {
+            plan.areas[0].logical_start = 0;
+            let size = u32::try_from(plan.area_size(0)).expect("an area lies in the image");
+            (encode(&plan), size)
+        }
+        Err(_) => (bytes, 0),
+    }
+}
+
+/// Of operations alone: a lock request has no pieces. Jobs that no area would accept are cut too: they
+/// end inside a unit or beyond the area, or begin before it.
+#[test]
+fn cuts_in_loops() {
+    let mut random = Random::new(94);
+    let mut with_pieces = 0;
+    for number in 0..PLANS {
+        let drawn = drawn_plan(&mut random);
+        let (in_place, size) = with_area_0_in_place(drawn.clone());
+        let plan = if random.one_in(8) { drawn } else { in_place };
+        let job_type = drawn_operation(&mut random);
+        let lengths = [drawn_length(&mut random), size, size, size.saturating_sub(1), size + 1];
+        let request = Request { job_type, length: random.pick(&lengths) };
+        let times = random.below(80);
+        let model = loops::cuts(loaded(&plan).plan(), request, times);
+        let case = format!("plan {number}: {plan:02x?} {request:?} {times} times");
+        assert_eq!(timing::CUTS.run(&plan, request, times), model, "{case}");
+        with_pieces += u32::from(model > 0);
+    }
+    println!("{with_pieces} of {PLANS} jobs of more than one piece");
+    assert!(2 * with_pieces >= PLANS, "{with_pieces} of {PLANS}");
 }

@@ -1,10 +1,11 @@
-//! The mapping, the pieces and questions 12 to 15 decided another way: byte by byte; and pieces of bursts
-//! that are powers of two or not, written by hand.
+//! The mapping, the pieces and questions 12 to 15 decided another way: byte by byte; pieces of bursts that
+//! are powers of two or not, written by hand; and the loops over burst tests and pieces.
 
 use model::admission::{self, Standing};
-use model::jobs::{Operation, Target};
+use model::jobs::{JobType, Operation, Target};
+use model::loops::{burst_tests, cuts, Request};
 use model::plan::{load, Plan, SubArea};
-use model::plans::{encode, plan_t, plan_w, small};
+use model::plans::{encode, largest, plan_t, plan_w, small, with_sizes};
 use model::random::Random;
 use model::segments::{pieces, Piece};
 use std::ops::Range;
@@ -241,4 +242,49 @@ fn erases_with_bursts_of_any_size() {
     check_pieces(Operation::Erase, with_sectors(1, 2), &cases);
     let cases: [Case; 1] = [(1..4, &[(1, 13), (1, 14), (1, 15)])];
     check_pieces(Operation::Erase, with_sectors(1, 1), &cases);
+}
+
+#[test]
+fn burst_tests_of_lists() {
+    let multiples =
+        [(1, 0), (1, 7), (2, 6), (12, 24), (24, 48), (12, 0), (0, 0), (u64::MAX, u64::MAX)];
+    let others = [(2, 7), (12, 16), (24, 12), (24, 32), (0, 1), (u64::MAX, 1), (1 << 63, 1 << 62)];
+    let (sizes, addresses): (Vec<_>, Vec<_>) = multiples.into_iter().chain(others).unzip();
+    assert_eq!(burst_tests(&sizes, &addresses), 8);
+    assert_eq!(burst_tests(&sizes[..9], &addresses[..3]), 3);
+    assert_eq!(burst_tests(&sizes[8..], &addresses[8..]), 0);
+    assert_eq!(burst_tests(&[], &addresses), 0);
+}
+
+/// On plan W, by hand: a write of 20 bytes is cut into 12, 4 and 4, one of 18 too, since a piece is a page
+/// at least; behind the 48 bytes of the area there is no piece.
+#[test]
+fn cuts_one_after_the_other() {
+    let sum = |operation: Operation, length: u32, times: u32| {
+        cuts(&plan_w(), Request { job_type: JobType::Operation(operation), length }, times)
+    };
+    assert_eq!(sum(Operation::Write, 20, 4), [12, 16, 0, 12].iter().sum());
+    assert_eq!(sum(Operation::Write, 18, 4), [12, 16, 0, 12].iter().sum());
+    assert_eq!(sum(Operation::Erase, 48, 4), [12, 36, 0, 12].iter().sum());
+    assert_eq!(sum(Operation::Read, 14, 4), [6, 12, 0, 6].iter().sum());
+    assert_eq!(sum(Operation::Erase, 60, 5), [12, 36, 48, 48, 48].iter().sum());
+    assert_eq!(sum(Operation::Erase, 0, 5), 0);
+    let lock = Request { job_type: JobType::LockRequest, length: 20 };
+    assert_eq!(cuts(&plan_w(), lock, 5), 0);
+    let write = Request { job_type: JobType::Operation(Operation::Write), length: 20 };
+    assert_eq!(cuts(&Plan::default(), write, 5), 0);
+}
+
+/// What the benchmarks rest on: the plan with most records is accepted with plan W's sizes too, and of
+/// both every piece of a write over area 0 is a burst.
+#[test]
+fn pieces_that_are_timed_are_bursts() {
+    for plan in [largest(), with_sizes(largest(), &plan_w().sub_areas[0])] {
+        assert_eq!(load(&encode(&plan)).as_ref(), Ok(&plan));
+        let burst = u64::from(plan.sub_areas[0].page_burst);
+        let size = u64::try_from(plan.area_size(0)).expect("a small area");
+        let lengths: Vec<_> =
+            pieces(&plan, Operation::Write, 0, 0..size).map(|p| p.length).collect();
+        assert!(lengths.len() >= 8 && lengths.iter().all(|length| *length == burst), "{lengths:?}");
+    }
 }

@@ -6,18 +6,18 @@
 use model::jobs::{Answer, JobType, Operation};
 use model::loops::{self, Request};
 use model::manager::Manager;
-use model::plan::{self, Chip, Plan};
-use model::plans::{encode, enduring, largest, with_chips};
+use model::plan::{self, Chip, Plan, DEVICE_SUM_LIMIT};
+use model::plans::{encode, enduring, largest, plan_w, with_chips, with_sizes};
 use model::proved;
 use model::proved::timing::{self, CancelLoop, Forms, JobLoop, RoundLoop};
 use model::race::{race, Runner};
+use model::random::Random;
 use std::hint::black_box;
 
 #[cfg(feature = "session")]
 use model::{
     plans::{full_that_stores, plan_t},
     proved::session::Library,
-    random::Random,
     script::{Lending, Script},
     sessions::lines,
     subject::{play, Model, Outcome},
@@ -28,6 +28,7 @@ fn main() {
     println!("{:<44} {:>10} {forms} {:>12} {:>8}", "", "model ns", "in place ns", "ratio");
     loads();
     calls();
+    cuts();
     rounds();
     growth();
     #[cfg(feature = "session")]
@@ -43,6 +44,12 @@ fn column(time: Option<f64>, to: f64) -> String {
 fn report(name: &str, model: f64, by_value: Option<f64>, in_place: Option<f64>) {
     let forms = format!("{} {}", column(by_value, model), column(in_place, model));
     println!("{name:<44} {model:>10.1} {forms}");
+}
+
+/// Where the library has one form.
+fn report_form(name: &str, operations: u32, model: Runner<'_>, proved: Runner<'_>) {
+    let [model, by_value] = race(operations, [model, proved]);
+    report(name, model, Some(by_value), None);
 }
 
 /// The three race in one run.
@@ -79,8 +86,7 @@ fn load(name: &str, number: u8, bytes: &[u8]) {
         |load: &dyn Fn(&[u8]) -> u8| (0..LOADS).map(|_| u64::from(load(black_box(bytes)))).sum();
     let model = |bytes: &[u8]| black_box(plan::load(bytes)).err().unwrap_or(0);
     let proved = |bytes: &[u8]| black_box(proved::load(bytes)).number;
-    let [model, by_value] = race(LOADS, [&mut || sum(&model), &mut || sum(&proved)]);
-    report(name, model, Some(by_value), None);
+    report_form(name, LOADS, &mut || sum(&model), &mut || sum(&proved));
 }
 
 const CALLS: u32 = 200_000;
@@ -152,8 +158,58 @@ fn info() {
     let peer = Peer::begun(&largest(), request);
     let mut model = || loops::infos(&mut peer.manager.clone(), CALLS);
     let mut proved = || timing::INFOS.run(&peer.bytes, request, CALLS);
-    let [model, by_value] = race(CALLS, [&mut model, &mut proved]);
-    report("job info", model, Some(by_value), None);
+    report_form("job info", CALLS, &mut model, &mut proved);
+}
+
+/// Few enough for the nearer caches, and too many to be foreseen from the turn before.
+const BURST_TESTS: u32 = 16_384;
+
+/// The burst test alone, and the cutting of a segment with it.
+fn cuts() {
+    let power: SizeDraw = |random| 1 << random.between(1, 16);
+    let other: SizeDraw = |random| {
+        let size = random.between(3, 65_535);
+        size + u32::from(size.is_power_of_two())
+    };
+    burst_test("burst test, powers of two", [power; 2]);
+    burst_test("burst test, no powers of two", [other; 2]);
+    burst_test("burst test, both mixed", [power, other]);
+    let others = with_sizes(largest(), &plan_w().sub_areas[0]);
+    segment("segment cut, bursts powers of two", &largest(), Operation::Write);
+    segment("segment cut, bursts no powers of two", &others, Operation::Write);
+    segment("erase segment cut, bursts powers of two", &largest(), Operation::Erase);
+    segment("erase segment cut, bursts no powers of two", &others, Operation::Erase);
+}
+
+/// A size above 1 and up to 65,536.
+type SizeDraw = fn(&mut Random) -> u32;
+
+fn burst_test(name: &str, draws: [SizeDraw; 2]) {
+    let mut random = Random::new(2);
+    let mut pair = |_| {
+        let size = random.pick(&draws)(&mut random);
+        (u64::from(size), u64::from(address(&mut random, size)))
+    };
+    let (sizes, addresses): (Vec<_>, Vec<_>) = (0..BURST_TESTS).map(&mut pair).unzip();
+    let mut model = || loops::burst_tests(&sizes, &addresses);
+    let mut proved = || timing::burst_tests(&sizes, &addresses);
+    report_form(name, BURST_TESTS, &mut model, &mut proved);
+}
+
+/// An address on a device, half of the time a multiple of the size.
+fn address(random: &mut Random, size: u32) -> u32 {
+    let multiple = size * random.below(DEVICE_SUM_LIMIT / size);
+    multiple + if random.one_in(2) { 0 } else { random.between(1, size - 1) }
+}
+
+/// The segments of a job over the whole of area 0, again and again.
+fn segment(name: &str, plan: &Plan, operation: Operation) {
+    let peer = Peer::of(plan);
+    let size = u32::try_from(plan.area_size(0)).expect("an area lies in the image");
+    let request = request(operation, size);
+    let mut model = || loops::cuts(peer.manager.plan(), request, CALLS);
+    let mut proved = || timing::CUTS.run(&peer.bytes, request, CALLS);
+    report_form(name, CALLS, &mut model, &mut proved);
 }
 
 /// Fewer than the bytes of a job, so that no job ends.

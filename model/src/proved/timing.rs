@@ -1,7 +1,8 @@
 //! The library of loops over calls: its calls are made many times over behind one call from here.
-//! Every loop starts from a load; `loops` says what each of them does. Most have two forms: calls that
-//! take a manager by value and hand the next one back, and an owner that holds one manager and writes
-//! back what a call changes. Those that are grown do the same work on a manager with 6 KB more.
+//! Every loop but that of the burst tests starts from a load; `loops` says what each of them does. Most
+//! have two forms: calls that take a manager by value and hand the next one back, and an owner that holds
+//! one manager and writes back what a call changes. Those that are grown do the same work on a manager
+//! with 6 KB more.
 
 use crate::jobs::Answer;
 use crate::loops::Request;
@@ -44,6 +45,12 @@ macro_rules! round_loops {
 extern "C" {
     fn luvdrog_time_cancels(plan: *const u8, plan_length: usize, times: u32) -> u64;
     fn luvdrog_time_cancels_in_place(plan: *const u8, plan_length: usize, times: u32) -> u64;
+    fn luvdrog_time_burst_tests(
+        sizes: *const u64,
+        sizes_length: usize,
+        addresses: *const u64,
+        addresses_length: usize,
+    ) -> u64;
 }
 
 job_loops! {
@@ -54,6 +61,7 @@ job_loops! {
     luvdrog_time_job_and_cancel_in_place
     luvdrog_time_grown_job_and_cancel
     luvdrog_time_grown_job_and_cancel_in_place
+    luvdrog_time_cuts
 }
 
 round_loops! {
@@ -116,6 +124,9 @@ pub const GROWN_JOBS_AND_CANCELS: Forms<JobLoop> = Forms {
 /// `loops::begin`, then `loops::infos`. A query changes nothing: it has one form.
 pub const INFOS: JobLoop = JobLoop(luvdrog_time_infos);
 
+/// `loops::cuts` on the plan of a load. It calls nothing that changes a manager: it has one form.
+pub const CUTS: JobLoop = JobLoop(luvdrog_time_cuts);
+
 /// `loops::begin`, then `loops::rounds`.
 pub const ROUNDS: Forms<RoundLoop> = Forms {
     by_value: RoundLoop(luvdrog_time_rounds),
@@ -145,6 +156,14 @@ impl JobLoop {
         let kind = request.job_type.number();
         // SAFETY: pointer and length are those of one live slice, which the call only reads.
         unsafe { (self.0)(plan.as_ptr(), plan.len(), kind, request.length, times) }
+    }
+}
+
+/// `loops::burst_tests`.
+pub fn burst_tests(sizes: &[u64], addresses: &[u64]) -> u64 {
+    // SAFETY: each pointer and length are those of one live slice, which the call only reads.
+    unsafe {
+        luvdrog_time_burst_tests(sizes.as_ptr(), sizes.len(), addresses.as_ptr(), addresses.len())
     }
 }
 
