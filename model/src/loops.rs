@@ -1,17 +1,19 @@
 //! The loops of the timing library on the model: for the benchmarks, and for the test that compares
 //! what they answer. Calls take the areas 0 to 7 in turn; a job covers so many bytes from logical
-//! address 0 on. Of the cutting alone there are two loops more: the burst test, and the pieces of a job.
+//! address 0 on. Of the cutting alone there are three loops more: the burst test, and the pieces of a job,
+//! looked up and not.
 //!
 //! Every call is really made in every turn. The compiler sees through a call that it can inline: a
 //! refused one leaves the manager as it was, so that questions may be answered once before the loop, and
 //! of job info only the field that is summed may be left. So a call is a function that is not inlined,
 //! the manager and the arguments pass through `black_box` in each turn, and so does a whole answer. A
-//! piece is cut in the same way. Of the burst tests only the lists pass through it: their sum takes each.
+//! piece is looked up and cut in the same way. Of the burst tests only the lists pass through it, of
+//! pieces that are not looked up only the sub-area: the sum takes each.
 
 use crate::jobs::{Answer, JobType};
 use crate::manager::Manager;
-use crate::plan::Plan;
-use crate::segments;
+use crate::plan::{Plan, SubArea};
+use crate::segments::{self, index};
 use std::hint::black_box;
 
 /// A job that every area is asked for.
@@ -117,17 +119,50 @@ fn cut(plan: &Plan, request: Request, processed: u64) -> u64 {
     black_box(segments::next_piece(plan, operation, 0, rest)).map_or(0, |piece| piece.length)
 }
 
-/// Pieces of a job of area 0, whether or not the area would accept it, one after the other. Behind the
-/// last one the job begins anew; where there is none it stays where it is. The sum of the bytes that are
-/// done after each turn, 0 after one in which the job ends.
-pub fn cuts(plan: &Plan, request: Request, times: u32) -> u64 {
+/// The same of a job that begins with the sub-area, which need not be looked for; 0 behind its end.
+fn placed_cut(sub_area: &SubArea, request: Request, processed: u64) -> u64 {
+    let JobType::Operation(operation) = request.job_type else {
+        return 0;
+    };
+    let end = sub_area.size().min(request.length.into());
+    if processed >= sub_area.size() {
+        return 0;
+    }
+    let start = u64::from(sub_area.start) + processed;
+    segments::piece_length(operation, sub_area, start, end - processed)
+}
+
+/// Pieces of a job one after the other. Behind the last one the job begins anew; where there is none it
+/// stays where it is. The sum of the bytes that are done after each turn, 0 after one in which the job
+/// ends.
+fn sum_of_cuts(length: u32, times: u32, mut cut: impl FnMut(u32, u64) -> u64) -> u64 {
     let (mut processed, mut sum) = (0, 0);
-    for _ in 0..times {
-        processed += cut(black_box(plan), black_box(request), black_box(processed));
-        if processed >= u64::from(request.length) {
+    for number in 0..times {
+        processed += cut(number, processed);
+        if processed >= u64::from(length) {
             processed = 0;
         }
         sum += processed;
     }
     sum
+}
+
+/// Pieces of a job of area 0, whether or not the area would accept it.
+pub fn cuts(plan: &Plan, request: Request, times: u32) -> u64 {
+    sum_of_cuts(request.length, times, |_, processed| {
+        cut(black_box(plan), black_box(request), black_box(processed))
+    })
+}
+
+/// The most sub-areas that a plan has.
+const SUB_AREAS: u32 = 32;
+
+/// The same without the lookup: each next piece is cut in the next of 32 sub-areas, and in those that the
+/// plan does not have there is none. The rest does not pass through `black_box`, which would
+/// be dearer than the cut.
+pub fn placed_cuts(plan: &Plan, request: Request, times: u32) -> u64 {
+    sum_of_cuts(request.length, times, |number, processed| {
+        let sub_area = plan.sub_areas.get(index(u64::from(number % SUB_AREAS)));
+        sub_area.map_or(0, |s| placed_cut(black_box(s), request, processed))
+    })
 }

@@ -110,7 +110,7 @@ pub fn pieces(
 ///
 /// Req 04 of document 02 wants no division where the burst is a power of two, and "Pieces and contracts
 /// keep their present meaning". The model divides for every burst: it is what the mask is held against.
-fn piece_length(operation: Operation, sub_area: &SubArea, p: u64, n: u64) -> u64 {
+pub fn piece_length(operation: Operation, sub_area: &SubArea, p: u64, n: u64) -> u64 {
     let burst_or_unit = |burst: u32, unit: u32| {
         let fits = p.is_multiple_of(u64::from(burst)) && n >= u64::from(burst);
         u64::from(if fits { burst } else { unit })

@@ -209,7 +209,9 @@ fn cuts_in_loops() {
         let model = loops::cuts(loaded(&plan).plan(), request, times);
         let case = format!("plan {number}: {plan:02x?} {request:?} {times} times");
         assert_eq!(timing::CUTS.run(&plan, request, times), model, "{case}");
-        with_pieces += u32::from(model > 0);
+        let placed = loops::placed_cuts(loaded(&plan).plan(), request, times);
+        assert_eq!(timing::PLACED_CUTS.run(&plan, request, times), placed, "placed, {case}");
+        with_pieces += u32::from(model > 0 && placed > 0);
     }
     println!("{with_pieces} of {PLANS} jobs of more than one piece");
     assert!(2 * with_pieces >= PLANS, "{with_pieces} of {PLANS}");

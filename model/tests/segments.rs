@@ -3,7 +3,7 @@
 
 use model::admission::{self, Standing};
 use model::jobs::{JobType, Operation, Target};
-use model::loops::{burst_tests, cuts, Request};
+use model::loops::{burst_tests, cuts, placed_cuts, Request};
 use model::plan::{load, Plan, SubArea};
 use model::plans::{encode, largest, plan_t, plan_w, small, with_sizes};
 use model::random::Random;
@@ -273,6 +273,22 @@ fn cuts_one_after_the_other() {
     assert_eq!(cuts(&plan_w(), lock, 5), 0);
     let write = Request { job_type: JobType::Operation(Operation::Write), length: 20 };
     assert_eq!(cuts(&Plan::default(), write, 5), 0);
+}
+
+/// The same write: plan W has one sub-area, so that the next piece is cut 32 turns later. With two of them
+/// the pieces are cut in turn, and behind the 48 bytes of a sub-area there is none.
+#[test]
+fn cuts_at_known_places() {
+    let request = |length| Request { job_type: JobType::Operation(Operation::Write), length };
+    assert_eq!(placed_cuts(&plan_w(), request(20), 32), 32 * 12);
+    assert_eq!(placed_cuts(&plan_w(), request(20), 33), 32 * 12 + 16);
+    let mut plan = plan_w();
+    plan.sub_areas.push(plan.sub_areas[0]);
+    assert_eq!(placed_cuts(&plan, request(20), 3), [12, 16, 16].iter().sum());
+    plan.sub_areas = plan_w().sub_areas.repeat(32);
+    assert_eq!(placed_cuts(&plan, request(20), 4), [12, 16, 0, 12].iter().sum());
+    assert_eq!(placed_cuts(&plan, request(60), 6), [12, 24, 36, 48, 48, 48].iter().sum());
+    assert_eq!(placed_cuts(&Plan::default(), request(20), 5), 0);
 }
 
 /// What the benchmarks rest on: the plan with most records is accepted with plan W's sizes too, and of

@@ -1,5 +1,5 @@
 -- Cutting alone: the burst test over two lists, and the segments of a job one after the other.
-use Prim.Native.Nat.{ℕ, _+_, _-_, _≤_, min}
+use Prim.Native.Nat.{ℕ, _+_, _-_, _%_, _≤_, min}
 use mathlib.Core.List.{List}
 use native.Mathlib.Omega.{arith}
 use borrow.Author.Tests.{eqb-true}
@@ -10,11 +10,15 @@ use Rattle.arith.specs.Cases.{pick, by-bool}
 use Rattle.arith.specs.Multiples.{multiple}
 use Rattle.manager.specs.Load.{loadedManager, zeroManager, freshManager}
 use Rattle.memory.specs.declared.Task.{Task}
-use Rattle.plan.specs.Questions.{loadNumber}
+use Rattle.plan.specs.Questions.{subAreaOf, sizeOf, loadNumber}
 use Rattle.plan.specs.Records.{emptyPlan}
 use Rattle.plan.specs.laws.Accepted.{accepted}
 use Rattle.plan.specs.declared.records.Plan.{Plan}
+use Rattle.plan.specs.declared.records.SubAreaRecord.{SubAreaRecord}
 use Rattle.segment.specs.Segments.{segmentAt}
+use Rattle.segment.specs.declared.Found.{Found}
+use Rattle.segment.specs.declared.Found.the-variants.{Outside, At}
+use Rattle.segment.specs.laws.Found.{segmentIf}
 use Rattle.loops.specs.Repeated.{total}
 
 -- 1 where address i is a multiple of size i
@@ -36,6 +40,21 @@ nextCut p t i x = processedNext (t .length) x (segmentAt p 0 t x .length)
 -- cut by cut from 0 on: the sum of what is processed then
 abbrev pub cutTotal : Plan → Task → ℕ → ℕ
 cutTotal p t = total (nextCut p t) (nextCut p t) 0
+
+-- where byte x of a sub-area lies
+abbrev pub placeIn : SubAreaRecord → ℕ → Found
+placeIn s x = pick (ltb x (sizeOf s)) (At 0 x (record { 0 = s .start + x })) Outside
+
+-- the segment of the task in sub-area s, which it begins with, that is due once x bytes are processed
+abbrev pub placedCut : Task → ℕ → SubAreaRecord → ℕ
+placedCut t x s = processedNext (t .length) x (segmentIf (t .kind) s (t .length - x) (placeIn s x) .length)
+
+-- in the 32 records in turn, from 0 on: the sum of what is processed then
+abbrev pub nextPlacedCut : List SubAreaRecord → Task → ℕ → ℕ → ℕ
+nextPlacedCut l t i x = placedCut t x (subAreaOf l (i % 32))
+
+abbrev pub placedTotal : List SubAreaRecord → Task → ℕ → ℕ
+placedTotal l t = total (nextPlacedCut l t) (nextPlacedCut l t) 0
 
 -- a load keeps at most 32 sub-areas
 pub loaded-few : (l : List ℕ) → loadedManager l .plan .«sub_area_count» ≤ 32

@@ -1,7 +1,7 @@
 // What the benchmarks link: the loops of crate `loops`, for C and Rust. They are exported from a crate of their own because a library proves its crate anew.
 ghost use mathlib.Core.Path.{_≡_};
 ghost use Rattle.loops.specs.Repeated.{taskOf, cancelTotal, jobTotal, pairTotal, busyManager, infoTotal};
-ghost use Rattle.loops.specs.Cutting.{multipleCount, cutTotal};
+ghost use Rattle.loops.specs.Cutting.{multipleCount, cutTotal, placedTotal};
 ghost use Rattle.loops.specs.Rounds.{answersOf, roundsTotal, benchAfter};
 ghost use Rattle.manager.specs.Load.{loadedManager};
 ghost use Rattle.effects.specs.Effects.{memoryOf};
@@ -168,4 +168,11 @@ pub extern "C" fn luvdrog_time_cuts(plan: &[u8], kind: u8, length: u32, times: u
     ensures { λ r. ⌜ r ≡ cutTotal (loadedManager (now (plan .entry)) .plan) (taskOf kind length) times ⌝ }
 {
     loops::cutting::cuts(plan, kind, length, times)
+}
+
+#[no_mangle]
+pub extern "C" fn luvdrog_time_placed_cuts(plan: &[u8], kind: u8, length: u32, times: u32) -> u64
+    ensures { λ r. ⌜ r ≡ placedTotal (loadedManager (now (plan .entry)) .plan .«sub_areas») (taskOf kind length) times ⌝ }
+{
+    loops::cutting::placed_cuts(plan, kind, length, times)
 }

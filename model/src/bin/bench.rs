@@ -175,10 +175,18 @@ fn cuts() {
     burst_test("burst test, no powers of two", [other; 2]);
     burst_test("burst test, both mixed", [power, other]);
     let others = with_sizes(largest(), &plan_w().sub_areas[0]);
-    segment("segment cut, bursts powers of two", &largest(), Operation::Write);
-    segment("segment cut, bursts no powers of two", &others, Operation::Write);
-    segment("erase segment cut, bursts powers of two", &largest(), Operation::Erase);
-    segment("erase segment cut, bursts no powers of two", &others, Operation::Erase);
+    // What a segment costs without a burst test is that of a read.
+    let kinds = [
+        ("burst a power of two", largest(), Operation::Write),
+        ("burst no power of two", others, Operation::Write),
+        ("a read", largest(), Operation::Read),
+    ];
+    for (name, plan, operation) in &kinds {
+        placed_segment(&format!("segment cut, {name}"), plan, *operation);
+    }
+    for (name, plan, operation) in &kinds {
+        segment(&format!("lookup and cut, {name}"), plan, *operation);
+    }
 }
 
 /// A size above 1 and up to 65,536.
@@ -202,14 +210,27 @@ fn address(random: &mut Random, size: u32) -> u32 {
     multiple + if random.one_in(2) { 0 } else { random.between(1, size - 1) }
 }
 
+/// The segments of a job over a whole sub-area, whose place is known, again and again.
+fn placed_segment(name: &str, plan: &Plan, operation: Operation) {
+    let request = request(operation, length(plan.sub_areas[0].size()));
+    let peer = Peer::of(plan);
+    let mut model = || loops::placed_cuts(peer.manager.plan(), request, CALLS);
+    let mut proved = || timing::PLACED_CUTS.run(&peer.bytes, request, CALLS);
+    report_form(name, CALLS, &mut model, &mut proved);
+}
+
 /// The segments of a job over the whole of area 0, again and again.
 fn segment(name: &str, plan: &Plan, operation: Operation) {
+    let request = request(operation, length(plan.area_size(0)));
     let peer = Peer::of(plan);
-    let size = u32::try_from(plan.area_size(0)).expect("an area lies in the image");
-    let request = request(operation, size);
     let mut model = || loops::cuts(peer.manager.plan(), request, CALLS);
     let mut proved = || timing::CUTS.run(&peer.bytes, request, CALLS);
     report_form(name, CALLS, &mut model, &mut proved);
+}
+
+/// The length of a job over so many bytes.
+fn length(size: impl TryInto<u32>) -> u32 {
+    size.try_into().ok().expect("they lie in the image")
 }
 
 /// Fewer than the bytes of a job, so that no job ends.

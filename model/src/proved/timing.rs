@@ -62,6 +62,7 @@ job_loops! {
     luvdrog_time_grown_job_and_cancel
     luvdrog_time_grown_job_and_cancel_in_place
     luvdrog_time_cuts
+    luvdrog_time_placed_cuts
 }
 
 round_loops! {
@@ -126,6 +127,9 @@ pub const INFOS: JobLoop = JobLoop(luvdrog_time_infos);
 
 /// `loops::cuts` on the plan of a load. It calls nothing that changes a manager: it has one form.
 pub const CUTS: JobLoop = JobLoop(luvdrog_time_cuts);
+
+/// `loops::placed_cuts` on the plan of a load.
+pub const PLACED_CUTS: JobLoop = JobLoop(luvdrog_time_placed_cuts);
 
 /// `loops::begin`, then `loops::rounds`.
 pub const ROUNDS: Forms<RoundLoop> = Forms {
