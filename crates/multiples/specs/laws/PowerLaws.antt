@@ -70,6 +70,7 @@ size-test s = (only-powers, every-power)
     only-powers t =
         let both = and-elim _ (eqb (masked s s) 0) t in
         passed-power s (omega (arith, leb-true _ s (both .0))) (eqb-true (masked s s) 0 (both .1))
+
     every-power : PowerOfTwo s → isPowerOfTwo s ≡ true
     every-power p = and-intro (le-leb _ s (omega (arith, power-pos s p))) (eq-eqb (masked s s) 0 (masked-rest s s p ∙ mod-self s))
 
