@@ -1,18 +1,13 @@
 -- Cutting alone: the burst test over two lists, and the segments of a job one after the other.
-use Prim.Native.Nat.{ℕ, _+_, _-_, _%_, _≤_, min}
+use Prim.Native.Nat.{ℕ, _+_, _-_, _%_, min}
 use mathlib.Core.List.{List}
-use native.Mathlib.Omega.{arith}
-use borrow.Author.Tests.{eqb-true}
-use lib.Dec.{eqb, ltb}
+use lib.Dec.{ltb}
 use lib.ListN.{length, getD}
 use Rattle.arith.specs.Bounded.{sum}
-use Rattle.arith.specs.Cases.{pick, by-bool}
+use Rattle.arith.specs.Cases.{pick}
 use Rattle.arith.specs.Multiples.{multiple}
-use Rattle.manager.specs.Load.{loadedManager, zeroManager, freshManager}
 use Rattle.memory.specs.declared.Task.{Task}
-use Rattle.plan.specs.Questions.{subAreaOf, sizeOf, loadNumber}
-use Rattle.plan.specs.Records.{emptyPlan}
-use Rattle.plan.specs.laws.Accepted.{accepted}
+use Rattle.plan.specs.Questions.{subAreaOf, sizeOf}
 use Rattle.plan.specs.declared.records.Plan.{Plan}
 use Rattle.plan.specs.declared.records.SubAreaRecord.{SubAreaRecord}
 use Rattle.segment.specs.Segments.{segmentAt}
@@ -55,11 +50,3 @@ nextPlacedCut l t i x = placedCut t x (subAreaOf l (i % 32))
 
 abbrev pub placedTotal : List SubAreaRecord → Task → ℕ → ℕ
 placedTotal l t = total (nextPlacedCut l t) (nextPlacedCut l t) 0
-
--- a load keeps at most 32 sub-areas
-pub loaded-few : (l : List ℕ) → loadedManager l .plan .«sub_area_count» ≤ 32
-unfolding loadedManager zeroManager freshManager emptyPlan
-loaded-few l =
-    by-bool (eqb (loadNumber l) 0)
-    (λ e. rw e (accepted l .0 (eqb-true (loadNumber l) 0 e) .1 .sub-area-most))
-    (λ e. rw e (omega arith))

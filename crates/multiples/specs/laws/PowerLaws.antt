@@ -7,7 +7,7 @@ use native.Mathlib.Nat.{mod-self, pow-suc, mod-eq-zero-of-dvd, dvd-of-mod-eq-zer
 use native.Mathlib.Omega.{arith}
 use lib.Arith.{bin-ind}
 use lib.Bits.{and-step, and-mask, and-self}
-use lib.Dec.{eqb, leb}
+use lib.Dec.{eqb}
 use lib.Pow.{pow-pos}
 use borrow.Author.Tests.{eqb-true, leb-true, eq-eqb, ne-eqb, le-leb}
 use Rattle.arith.specs.Cases.{and-elim, and-intro, by-bool}

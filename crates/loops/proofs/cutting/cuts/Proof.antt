@@ -2,8 +2,9 @@ use Prim.Native.Nat.{_+_, _-_, _*_, _≤_}
 use mathlib.Core.Path.{_≡_, refl, ap, ap₂, _∙_, subst, sym}
 use native.Mathlib.Omega.{arith}
 use borrow.Author.Needs.{needs}
+use Rattle.manager.specs.laws.LoadLaws.{loaded-few}
 use Rattle.loops.specs.Repeated.{repeated, total, repeated-more, total-more}
-use Rattle.loops.specs.Cutting.{processedNext, nextCut, cutTotal, loaded-few}
+use Rattle.loops.specs.Cutting.{processedNext, nextCut, cutTotal}
 use Rattle.loops.proofs.cutting.cuts.Statement.{statement}
 use Rattle.loops.proofs.cutting.cuts.Tie as tie
 
