@@ -28,11 +28,11 @@ multipleCount sizes addresses = sum (multipleAt sizes addresses) (min (length si
 unfoldable pub processedNext : ℕ → ℕ → ℕ → ℕ
 processedNext n x k = pick (ltb k (n - x)) (x + k) 0
 
--- the segment of area 0's task that is due once x bytes are processed
+-- what is processed when the segment of area 0's task that is due at x is done
 abbrev pub nextCut : Plan → Task → ℕ → ℕ → ℕ
 nextCut p t i x = processedNext (t .length) x (segmentAt p 0 t x .length)
 
--- cut by cut from 0 on: the sum of what is processed then
+-- segment by segment from 0 on: the sum of what is processed then
 abbrev pub cutTotal : Plan → Task → ℕ → ℕ
 cutTotal p t = total (nextCut p t) (nextCut p t) 0
 
@@ -40,11 +40,11 @@ cutTotal p t = total (nextCut p t) (nextCut p t) 0
 abbrev pub placeIn : SubAreaRecord → ℕ → Found
 placeIn s x = pick (ltb x (sizeOf s)) (At 0 x (record { 0 = s .start + x })) Outside
 
--- the segment of the task in sub-area s, which it begins with, that is due once x bytes are processed
+-- the same of a task that begins with sub-area s
 abbrev pub placedCut : Task → ℕ → SubAreaRecord → ℕ
 placedCut t x s = processedNext (t .length) x (segmentIf (t .kind) s (t .length - x) (placeIn s x) .length)
 
--- in the 32 records in turn, from 0 on: the sum of what is processed then
+-- in the 32 records in turn
 abbrev pub nextPlacedCut : List SubAreaRecord → Task → ℕ → ℕ → ℕ
 nextPlacedCut l t i x = placedCut t x (subAreaOf l (i % 32))
 

@@ -529,17 +529,24 @@ fn of_suspended_jobs() -> Vec<Mutant> {
     ]
 }
 
-/// Makes a mutant of what a write leaves in the place of a byte.
-macro_rules! byte_mutant {
-    ($name:expr, $leaves:expr) => {
+/// Makes a mutant of what answers a line by a rule.
+macro_rules! answer_mutant {
+    ($answer:path, $name:expr, $rule:expr) => {
         Mutant {
             name: $name,
             session: |plan, input, image, store| {
                 with_answers(plan, input, image, store, |session, line| {
-                    clearing::answer(session, line, $leaves)
+                    $answer(session, line, $rule)
                 })
             },
         }
+    };
+}
+
+/// Of what a write leaves in the place of a byte.
+macro_rules! byte_mutant {
+    ($name:expr, $leaves:expr) => {
+        answer_mutant!(clearing::answer, $name, $leaves)
     };
 }
 
@@ -571,17 +578,10 @@ fn of_clearing() -> Vec<Mutant> {
     ]
 }
 
-/// Makes a mutant of a rule by which writes and erases are cut.
+/// Of a rule by which writes and erases are cut.
 macro_rules! cut_mutant {
     ($name:expr, $rule:expr) => {
-        Mutant {
-            name: $name,
-            session: |plan, input, image, store| {
-                with_answers(plan, input, image, store, |session, line| {
-                    cutting::answer(session, line, $rule)
-                })
-            },
-        }
+        answer_mutant!(cutting::answer, $name, $rule)
     };
 }
 

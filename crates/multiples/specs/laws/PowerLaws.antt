@@ -14,6 +14,14 @@ use Rattle.arith.specs.Cases.{and-elim, and-intro, by-bool}
 use Rattle.arith.specs.Multiples.{multiple, multiple-elim, multiple-intro}
 use Rattle.multiples.specs.Powers.{PowerOfTwo, masked, isPowerOfTwo, MaskDecides}
 
+-- the mask of a power of two leaves the remainder
+masked-rest : (s n : ℕ) → PowerOfTwo s → masked s n ≡ n % s
+unfolding masked
+masked-rest s n (k, e) = rw e (and-mask n k)
+
+power-pos : (s : ℕ) → PowerOfTwo s → 1 ≤ s
+power-pos s (k, e) = rw e (pow-pos k)
+
 -- the mask of an even size leaves of the size twice what that of its half leaves of the half
 mask-even : (h : ℕ) → 1 ≤ h → masked (2 * h) (2 * h) ≡ masked h h * 2
 unfolding masked
@@ -53,14 +61,6 @@ passed-power : (s : ℕ) → 1 ≤ s → masked s s ≡ 0 → PowerOfTwo s
 passed-power =
     bin-ind (λ s. 1 ≤ s → masked s s ≡ 0 → PowerOfTwo s) (λ l e. absurd (omega arith))
     (λ s ih l e. half-power s (s / 2) (s % 2) (omega arith) (omega arith) l e ih)
-
--- the mask of a power of two leaves the remainder
-masked-rest : (s n : ℕ) → PowerOfTwo s → masked s n ≡ n % s
-unfolding masked
-masked-rest s n (k, e) = rw e (and-mask n k)
-
-power-pos : (s : ℕ) → PowerOfTwo s → 1 ≤ s
-power-pos s (k, e) = rw e (pow-pos k)
 
 size-test : (s : ℕ) → (isPowerOfTwo s ≡ true) ↔ PowerOfTwo s
 unfolding isPowerOfTwo
