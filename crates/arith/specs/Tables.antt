@@ -6,7 +6,9 @@ use native.Mathlib.Omega.{arith}
 use native.Mathlib.Numerals.{add-one}
 use lib.ListN.{length, getD, set, replicate, length-set, length-replicate}
 use lib.Seq.{getD-set-same, getD-set-other, ext-getD}
+use lib.Dec.{eqb}
 use Rattle.arith.specs.Bounded.{below-suc}
+use Rattle.arith.specs.Cases.{pick, by-eqb}
 
 module _ {A : Type 0} (k : ℕ) (f : ℕ → A) (blank : A) where
   -- k entries: the first n are f 0, f 1, .., f (n - 1), and the others are blank
@@ -43,3 +45,11 @@ pub table-whole : {A : Type 0} (k : ℕ) (f : ℕ → A) (blank : A) (l : List A
 table-whole k f blank l e h =
     ext-getD blank l (table k f blank k) (rw (length-table k f blank k) e)
     (λ i m. let b : i < k = omega (arith, e, m) in h i b ∙ sym (table-at k f blank k i blank b (omega arith)))
+
+-- an entry set in a table that is all in use; outside it nothing changes
+pub table-set : {A : Type 0} (k : ℕ) (f : ℕ → A) (blank : A) (n : ℕ) (x : A) → set (table k f blank k) n x ≡ table k (λ i. pick (eqb n i) x (f i)) blank k
+table-set k f blank n x =
+    table-whole k _ blank _ (rw length-set (length-table k f blank k)) λ i h.
+    by-eqb n i
+    (λ q e. rw (q, ← e) (getD-set-same (table k f blank k) n x blank (rw (length-table k f blank k) (omega arith))))
+    (λ q e. rw q (getD-set-other (table k f blank k) n i x blank (λ r. e (sym r)) ∙ table-at k f blank k i blank h (omega arith)))
