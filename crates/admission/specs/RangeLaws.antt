@@ -127,8 +127,8 @@ module _ (p : Plan) (a x : ℕ) where
   mapped-offset Outside e = omega arith
   mapped-offset (At i y m) e = let place = mapped-place p a x i y m (sym e) .0 in omega (arith, place .is-at)
 
-  pub mapped-inside : (f : Found) → f ≡ mapped p a (record { 0 = x }) → Inside (subAreaOf (p .«sub_areas») (indexOf f)) f
-  mapped-inside f e = offset-inside (p .«sub_areas») a (p .«sub_area_count») (areaOf (p .areas) a .start .0) x f (e ∙ sym (located-mapped p a x))
+  pub mapped-inside : p .«sub_area_count» ≤ 32 → (f : Found) → f ≡ mapped p a (record { 0 = x }) → Inside (subAreaOf (p .«sub_areas») (indexOf f)) f
+  mapped-inside h f e = offset-inside (p .«sub_areas») a (p .«sub_area_count») (areaOf (p .areas) a .start .0) x f (e ∙ sym (located-mapped p a x)) h
 
   pub mapped-behind : (f : Found) → f ≡ mapped p a (record { 0 = x }) → Behind f
   mapped-behind Outside e = tt

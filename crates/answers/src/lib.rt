@@ -1,8 +1,8 @@
 // The first half of a round: a device with a running request takes its answer.
 ghost use mathlib.Core.Path.{_≡_};
-ghost use Prim.Native.Nat.{_≤_};
+ghost use Prim.Native.Nat.{_≤_, _<_};
 ghost use Rattle.rules.specs.Machine.{doing};
-ghost use Rattle.answers.specs.laws.Answers.{Lent, turnArea, turnState, turnDue, turnMemory};
+ghost use Rattle.answers.specs.laws.Answers.{Lent, turnArea, turnState, turnDue, turnWorn, turnMemory};
 ghost use Rattle.effects.specs.Effects.{memoryOf};
 use memory::DeviceAnswer;
 use plan::records::AreaRecord;
@@ -15,11 +15,29 @@ use state::Area;
 use state::Device;
 use state::DeviceState;
 
+// The sectors that a sub-area wears by; none of any sub-area where nothing was erased.
+pub struct Worn {
+    pub sub_area: u8,
+    pub sectors: u64,
+}
+
+impl Worn {
+    fn none() -> Worn
+        ensures { λ r. ⌜ r ≡ record { «sub_area» = 0; sectors = 0 } ⌝ }
+    {
+        Worn {
+            sub_area: 0,
+            sectors: 0,
+        }
+    }
+}
+
 // What a device's answer makes of the device, and of the area that its request is for.
 pub struct Turn {
     pub area: Area,
     pub due: Segment,
     pub device: Device,
+    pub worn: Worn,
 }
 
 // A device takes its answer; `entry` and `due` are of the area that its request is for. What it keeps suspended stays.
@@ -39,6 +57,7 @@ pub fn take_answer(
     ensures { λ r. ⌜ r .area ≡ turnArea «sub_areas» count «area_record» «device_record» entry due answer (memoryOf (now (image .entry)) (now (store .entry))) (device .state) ⌝ }
     ensures { λ r. ⌜ r .due ≡ turnDue «sub_areas» count «area_record» entry due answer (memoryOf (now (image .entry)) (now (store .entry))) (device .state) ⌝ }
     ensures { λ r. ⌜ r .device ≡ doing (turnState «area_record» «device_record» entry due answer (memoryOf (now (image .entry)) (now (store .entry))) (device .state)) device ⌝ }
+    ensures { λ r. ⌜ (r .worn ≡ turnWorn «sub_areas» «area_record» entry due answer (memoryOf (now (image .entry)) (now (store .entry))) (device .state)) × (r .worn .«sub_area» < 32) ⌝ }
     ensures { λ _. ⌜ now (image .exit) ≡ turnMemory «area_record» «device_record» entry due answer (memoryOf (now (image .entry)) (now (store .entry))) (device .state) .image ⌝ }
     ensures { λ _. ⌜ now (store .exit) ≡ turnMemory «area_record» «device_record» entry due answer (memoryOf (now (image .entry)) (now (store .entry))) (device .state) .store ⌝ }
 {
@@ -49,21 +68,26 @@ pub fn take_answer(
             area: entry,
             due,
             device,
+            worn: Worn::none(),
         },
         DeviceState::LockedFor(_) => Turn {
             area: entry,
             due,
             device,
+            worn: Worn::none(),
         },
         DeviceState::Runs { area, polls } => {
             let job = entry.job;
             let waits = entry.waits;
             let start = area_record.start;
+            let sub_area = due.sub_area;
+            let place = sub_areas[sub_area as usize];
             let next = next_segment(answer, sub_areas, count, start, area as usize, job, due);
             let taken = take_request(
                 area_record.window.start,
                 device_record.poll_limit,
                 device_record.clears,
+                place.erase.unit,
                 area,
                 polls,
                 job,
@@ -80,6 +104,10 @@ pub fn take_answer(
                 area: Area { job, waits },
                 due,
                 device: Device { state, suspended },
+                worn: Worn {
+                    sub_area,
+                    sectors: taken.sectors,
+                },
             }
         }
     }

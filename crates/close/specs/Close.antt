@@ -11,7 +11,8 @@ use Rattle.plan.specs.declared.records.Plan.{Plan}
 use Rattle.rules.specs.Layout.{Layout}
 use Rattle.rules.specs.Machine.{Core, Wait, own, above, below, locked, none, isPending, waitOf}
 use Rattle.rules.specs.Memory.{Memory}
-use Rattle.rules.specs.Round.{Half, roundHalves}
+use Rattle.rules.specs.Round.{Half, roundErases, roundHalves}
+use Rattle.rules.specs.Wear.{wearAfter}
 use Rattle.state.specs.Ages.{ageIn}
 use Rattle.state.specs.Fresh.{freshArea, freeDevice}
 use Rattle.state.specs.declared.Area.{Area}
@@ -62,3 +63,7 @@ lentTo areas devices m = record { core = coreIn areas devices; memory = m; done 
 
 unfoldable pub halvesOf : Plan → List Area → List Device → List ℕ → List DeviceAnswer → Memory → Half
 halvesOf p areas devices ages answers m = roundHalves p (ageIn ages) answers (lentTo areas devices m)
+
+-- document 02, 05: the sums of the sub-areas after a round, which no area and no device holds
+unfoldable pub wearOf : Plan → List Area → List Device → List DeviceAnswer → Memory → List ℕ → List ℕ
+wearOf p areas devices answers m wear = wearAfter p (roundErases p answers (lentTo areas devices m)) wear

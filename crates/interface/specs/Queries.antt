@@ -1,17 +1,19 @@
--- document 01, "Queries (status, result, processed length, job info (..), memory info of 000)": their answers as they cross to C and
+-- document 01, "Queries (status, result, processed length, job info (..), memory info of 000)", and document 02, 05: their answers as they cross to C and
 -- Rust, with the papers' numbers for enums. What each gives is said in crate manager.
 use Prim.Native.Nat.{ℕ}
-use Rattle.manager.specs.Calls.{infoNumberOf, statusOf, resultOf, processedOf, infoOf, memoryInfoNumberOf, memoryOfArea}
+use Rattle.manager.specs.Calls.{infoNumberOf, statusOf, resultOf, processedOf, infoOf, memoryInfoNumberOf, memoryOfArea, wearOfArea}
 use Rattle.manager.specs.declared.Manager.{Manager}
 use Rattle.memory.specs.Numbers.{jobTypeNumber}
 use Rattle.memory.specs.declared.LogicalAddress.{LogicalAddress}
 use Rattle.state.specs.declared.JobInfo.{JobInfo}
 use Rattle.state.specs.declared.MemoryInfo.{MemoryInfo}
+use Rattle.state.specs.declared.WearInfo.{WearInfo}
 use Rattle.interface.specs.declared.queries.StatusView.{StatusView}
 use Rattle.interface.specs.declared.queries.ResultView.{ResultView}
 use Rattle.interface.specs.declared.queries.ProcessedView.{ProcessedView}
 use Rattle.interface.specs.declared.queries.JobInfoView.{JobInfoView}
 use Rattle.interface.specs.declared.queries.MemoryInfoView.{MemoryInfoView}
+use Rattle.interface.specs.declared.queries.WearInfoView.{WearInfoView}
 use Rattle.interface.specs.declared.queries.QueryView.{QueryView}
 
 abbrev pub statusView : Manager → ℕ → StatusView
@@ -60,7 +62,14 @@ numberedMemoryInfo n i =
 abbrev pub memoryInfoView : Manager → ℕ → LogicalAddress → MemoryInfoView
 memoryInfoView m a address = numberedMemoryInfo (memoryInfoNumberOf m a address) (memoryOfArea m a address)
 
--- every query of one area, memory info at one address
+-- document 02, 05: a query "addressed and refused like memory info"
+abbrev pub numberedWearInfo : ℕ → WearInfo → WearInfoView
+numberedWearInfo n i = record { number = n; sum = i .sum; charge = i .charge }
+
+abbrev pub wearInfoView : Manager → ℕ → LogicalAddress → WearInfoView
+wearInfoView m a address = numberedWearInfo (memoryInfoNumberOf m a address) (wearOfArea m a address)
+
+-- every query of one area, memory and wear info at one address
 unfoldable pub queryView : Manager → ℕ → LogicalAddress → QueryView
 queryView m a address =
     record {
@@ -69,4 +78,5 @@ queryView m a address =
       processed = processedView m a;
       «job_info» = jobInfoView m a;
       «memory_info» = memoryInfoView m a address;
+      «wear_info» = wearInfoView m a address;
     }

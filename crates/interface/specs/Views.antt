@@ -68,10 +68,10 @@ deviceViews l = table 4 (λ i. deviceView (getD l i freeDevice)) noDeviceView 4
 unfoldable pub loadView : List ℕ → LoadView
 loadView l =
     let m = loadedManager l in
-    record { number = loadNumber l; plan = m .plan; areas = areaViews (m .areas); devices = deviceViews (m .devices); ages = m .ages }
+    record { number = loadNumber l; plan = m .plan; areas = areaViews (m .areas); devices = deviceViews (m .devices); ages = m .ages; wear = m .wear }
 
 -- the view by its parts
 pub view-is : (l : List ℕ) (n : ℕ) (m : Manager) → n ≡ loadNumber l → m ≡ loadedManager l →
-    record { number = n; plan = m .plan; areas = areaViews (m .areas); devices = deviceViews (m .devices); ages = m .ages } ≡ loadView l
+    record { number = n; plan = m .plan; areas = areaViews (m .areas); devices = deviceViews (m .devices); ages = m .ages; wear = m .wear } ≡ loadView l
 unfolding loadView
 view-is l n m e f = rw (e, f)

@@ -61,6 +61,7 @@ pub struct LoadView {
     pub areas: [AreaView; 8],
     pub devices: [DeviceView; 4],
     pub ages: [u8; 8],
+    pub wear: [u32; 32],
 }
 
 impl JobView {
@@ -202,12 +203,14 @@ pub extern "C" fn luvdrog_load(bytes: &[u8]) -> LoadView
     let areas = manager.areas;
     let devices = manager.devices;
     let ages = manager.ages;
+    let wear = manager.wear;
     LoadView {
         number: answer.number(),
         plan,
         areas: area_views(areas),
         devices: device_views(devices),
         ages,
+        wear,
     }
 }
 
@@ -247,7 +250,7 @@ pub struct SessionQueryView {
     pub queries: QueryView,
 }
 
-// A whole session as above, then every query of the area, memory info at the address. Where the plan is refused the
+// A whole session as above, then every query of the area, memory and wear info at the address. Where the plan is refused the
 // manager is that of all zeros, and every query answers 9.
 #[no_mangle]
 pub extern "C" fn luvdrog_session_query(

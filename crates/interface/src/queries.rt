@@ -1,7 +1,7 @@
 // The answers to the queries in C's layout. Each has its number, 0 or that of the first question answered "no"; where it
 // is refused, what was asked for is 0.
 ghost use mathlib.Core.Path.{_≡_};
-ghost use Rattle.interface.specs.Queries.{statusView, resultView, processedView, jobInfoView, memoryInfoView, queryView};
+ghost use Rattle.interface.specs.Queries.{statusView, resultView, processedView, jobInfoView, memoryInfoView, wearInfoView, queryView};
 use manager::Manager;
 use memory::JobResult;
 use memory::LogicalAddress;
@@ -56,7 +56,15 @@ pub struct MemoryInfoView {
     pub device: u8,
 }
 
-// Every query of one area, memory info at one address.
+// Of the sub-area that holds the address asked for: sectors erased, and the charge in millionths of what the sub-area endures.
+#[repr(C)]
+pub struct WearInfoView {
+    pub number: u8,
+    pub sum: u32,
+    pub charge: u64,
+}
+
+// Every query of one area, memory and wear info at one address.
 #[repr(C)]
 pub struct QueryView {
     pub status: StatusView,
@@ -64,6 +72,7 @@ pub struct QueryView {
     pub processed: ProcessedView,
     pub job_info: JobInfoView,
     pub memory_info: MemoryInfoView,
+    pub wear_info: WearInfoView,
 }
 
 impl StatusView {
@@ -161,6 +170,21 @@ impl MemoryInfoView {
     }
 }
 
+impl WearInfoView {
+    fn of(manager: Manager, area: usize, address: LogicalAddress) -> WearInfoView
+        ensures { λ r. ⌜ r ≡ wearInfoView manager area address ⌝ }
+    {
+        let asked = manager.wear_info(area, address);
+        let answer = asked.answer;
+        let info = asked.info;
+        WearInfoView {
+            number: answer.number(),
+            sum: info.sum,
+            charge: info.charge,
+        }
+    }
+}
+
 impl QueryView {
     pub fn of(manager: Manager, area: usize, address: LogicalAddress) -> QueryView
         ensures { λ r. ⌜ r ≡ queryView manager area address ⌝ }
@@ -171,6 +195,7 @@ impl QueryView {
             processed: ProcessedView::of(manager, area),
             job_info: JobInfoView::of(manager, area),
             memory_info: MemoryInfoView::of(manager, area, address),
+            wear_info: WearInfoView::of(manager, area, address),
         }
     }
 }

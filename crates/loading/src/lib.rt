@@ -11,6 +11,7 @@ use memory::Refusal;
 use plan::checks::counts_fit;
 use plan::records::Plan;
 use plan::scan::record_layout;
+use plan::wear::wear_fits;
 
 pub struct LoadedPlan {
     pub answer: Admission,
@@ -46,7 +47,17 @@ pub fn load_plan(bytes: &[u8]) -> LoadedPlan
     let plan = Plan::read(bytes, layout);
     let answer = admission(plan);
     match answer {
-        Admission::Accepted => LoadedPlan { answer, plan },
         Admission::Refused(refusal) => refused(refusal),
+        Admission::Accepted => {
+            if !wear_fits(
+                bytes,
+                layout.wear_start,
+                layout.wear_count,
+                layout.sub_area_count,
+            ) {
+                return refused(Refusal::Wear);
+            }
+            LoadedPlan { answer, plan }
+        }
     }
 }

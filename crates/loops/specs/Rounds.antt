@@ -12,6 +12,7 @@ use Rattle.memory.specs.declared.DeviceAnswer.{DeviceAnswer}
 use Rattle.memory.specs.declared.DeviceAnswer.the-variants.{Pending, Done, Failed}
 use Rattle.effects.specs.Effects.{memoryOf}
 use Rattle.rules.specs.Memory.{Memory}
+use Rattle.rules.specs.Wear.{wornAt}
 use Rattle.loops.specs.Repeated.{total, turn}
 
 -- the answer of a number that C hands over: 0 pending, 1 done, any other failed after 2 bytes fewer
@@ -55,9 +56,9 @@ pub bench-is : (m after : Manager) (image store : List ℕ) (x : Memory) → m �
     benchOf m (memoryOf image store) ≡ benchOf after x
 bench-is m after image store x e f g = rw (e, f, g)
 
--- the processed lengths of the eight areas together
-abbrev pub processedTotal : Manager → ℕ → ℕ
-processedTotal = total (λ i x. x) (λ i m. processedOf m (turn i))
+-- what the jobs of the eight areas have processed and the first eight sub-areas have worn by, together
+abbrev pub leftTotal : Manager → ℕ → ℕ
+leftTotal = total (λ i x. x) (λ i m. processedOf m (turn i) + wornAt (m .wear) (turn i))
 
 -- after n rounds on a manager that are lent this memory: what stands, and the sum that the loop returns
 abbrev pub benchAfter : Manager → Memory → List DeviceAnswer → ℕ → Bench
@@ -65,4 +66,4 @@ benchAfter m lent answers n = rounds answers (benchOf m lent) n
 
 abbrev pub roundsTotal : Manager → Memory → List DeviceAnswer → ℕ → ℕ
 roundsTotal m lent answers n =
-    roundTotal answers (benchOf m lent) n + processedTotal (benchAfter m lent answers n .manager) 8
+    roundTotal answers (benchOf m lent) n + leftTotal (benchAfter m lent answers n .manager) 8

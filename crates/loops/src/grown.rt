@@ -11,7 +11,7 @@ ghost use Rattle.loops.specs.Rounds.{answersOf, roundsTotal, benchAfter}
 use crate::answer_of;
 use crate::busy;
 use crate::in_place::task_of;
-use crate::processed_sum;
+use crate::left_sum;
 use manager::Manager;
 use manager::in_place::cancel_change;
 use manager::in_place::job_change;
@@ -28,6 +28,7 @@ pub struct Grown {
     pub areas: [Area; 8],
     pub devices: [Device; 4],
     pub ages: [u8; 8],
+    pub wear: [u32; 32],
     pub more: [u64; 768],
 }
 
@@ -44,12 +45,14 @@ impl Grown {
         let areas = manager.areas;
         let devices = manager.devices;
         let ages = manager.ages;
+        let wear = manager.wear;
         let more = [0u64; 768];
         Grown {
             plan,
             areas,
             devices,
             ages,
+            wear,
             more,
         }
     }
@@ -61,11 +64,13 @@ impl Grown {
         let areas = self.areas;
         let devices = self.devices;
         let ages = self.ages;
+        let wear = self.wear;
         Manager {
             plan,
             areas,
             devices,
             ages,
+            wear,
         }
     }
 
@@ -123,12 +128,15 @@ impl Grown {
         let areas = self.areas;
         let devices = self.devices;
         let ages = self.ages;
-        let change = round_change(self.plan, areas, devices, ages, answers, image, store);
+        let wear = self.wear;
+        let change = round_change(self.plan, areas, devices, ages, wear, answers, image, store);
         let answer = change.answer;
         let areas = change.areas;
         let devices = change.devices;
+        let wear = change.wear;
         self.areas = areas;
         self.devices = devices;
+        self.wear = wear;
         GrownAnswered {
             answer,
             grown: self,
@@ -243,7 +251,7 @@ pub fn rounds(
     }
     let more = grown.more;
     let rest = rest_of(more, times);
-    sum + rest + processed_sum(grown.manager())
+    sum + rest + left_sum(grown.manager())
 }
 
 pub fn rounds_in_place(
@@ -268,17 +276,29 @@ pub fn rounds_in_place(
         let areas = grown.areas;
         let devices = grown.devices;
         let ages = grown.ages;
-        let change = round_change(grown.plan, areas, devices, ages, answers, image, store);
+        let wear = grown.wear;
+        let change = round_change(
+            grown.plan,
+            areas,
+            devices,
+            ages,
+            wear,
+            answers,
+            image,
+            store,
+        );
         let told = change.answer;
         let number = told.number();
         sum += number as u64;
         let areas = change.areas;
         let devices = change.devices;
+        let wear = change.wear;
         grown.areas = areas;
         grown.devices = devices;
+        grown.wear = wear;
         i += 1;
     }
     let more = grown.more;
     let rest = rest_of(more, times);
-    sum + rest + processed_sum(grown.manager())
+    sum + rest + left_sum(grown.manager())
 }

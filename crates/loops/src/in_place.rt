@@ -6,7 +6,7 @@ ghost use Rattle.loops.specs.Repeated.{kindOf, taskOf, cancelTotal, jobT
 ghost use Rattle.loops.specs.Rounds.{answersOf, roundsTotal, benchAfter};
 use crate::answer_of;
 use crate::busy;
-use crate::processed_sum;
+use crate::left_sum;
 use manager::Manager;
 use manager::in_place::cancel_change;
 use manager::in_place::job_change;
@@ -185,15 +185,27 @@ pub fn rounds(
         let areas = manager.areas;
         let devices = manager.devices;
         let ages = manager.ages;
-        let change = round_change(manager.plan, areas, devices, ages, answers, image, store);
+        let wear = manager.wear;
+        let change = round_change(
+            manager.plan,
+            areas,
+            devices,
+            ages,
+            wear,
+            answers,
+            image,
+            store,
+        );
         let told = change.answer;
         let number = told.number();
         sum += number as u64;
         let areas = change.areas;
         let devices = change.devices;
+        let wear = change.wear;
         manager.areas = areas;
         manager.devices = devices;
+        manager.wear = wear;
         i += 1;
     }
-    sum + processed_sum(manager)
+    sum + left_sum(manager)
 }

@@ -7,7 +7,7 @@ ghost use Rattle.manager.specs.Load.{loadedManager};
 ghost use Rattle.loops.specs.Repeated.{taskOf, cancelTotal, jobTotal, pairTotal, busyManager, infoTotal};
 ghost use Rattle.memory.specs.Numbers.{admissionNumber};
 ghost use Rattle.effects.specs.Effects.{memoryOf};
-ghost use Rattle.loops.specs.Rounds.{answerNumbered, answersOf, processedTotal, roundsTotal, benchAfter};
+ghost use Rattle.loops.specs.Rounds.{answerNumbered, answersOf, leftTotal, roundsTotal, benchAfter};
 
 pub mod cutting;
 pub mod grown;
@@ -149,22 +149,29 @@ pub(crate) fn answer_of(number: u32) -> DeviceAnswer
     DeviceAnswer::Failed(number - 2)
 }
 
-// What the jobs of the eight areas have processed.
-pub(crate) fn processed_sum(manager: Manager) -> u64
-    ensures { λ r. ⌜ r ≡ processedTotal manager 8 ⌝ }
-    ensures { λ r. ⌜ r ≤ 34359738360 ⌝ }
+fn wide(n: u32) -> u64
+    ensures { λ r. ⌜ (r ≡ n) × (r ≤ 4294967295) ⌝ }
+{
+    n as u64
+}
+
+// What the jobs of the eight areas have processed and the first eight sub-areas have worn by.
+pub(crate) fn left_sum(manager: Manager) -> u64
+    ensures { λ r. ⌜ r ≡ leftTotal manager 8 ⌝ }
+    ensures { λ r. ⌜ r ≤ 68719476720 ⌝ }
 {
     let mut sum: u64 = 0;
     let mut i = 0;
     while i < 8 {
         let asked = manager.processed(i % 8);
-        sum += asked.processed as u64;
+        let worn = wide(manager.wear[i % 8]);
+        sum += asked.processed as u64 + worn;
         i += 1;
     }
     sum
 }
 
-// Rounds on a busy manager: the sum of their numbers and of what the jobs have processed then.
+// Rounds on a busy manager: the sum of their numbers and of what is left then.
 pub fn rounds(
     plan: &[u8],
     kind: u8,
@@ -190,5 +197,5 @@ pub fn rounds(
         manager = answered.manager;
         i += 1;
     }
-    sum + processed_sum(manager)
+    sum + left_sum(manager)
 }

@@ -17,13 +17,14 @@ use Rattle.memory.specs.declared.Task.{Task}
 use Rattle.plan.specs.declared.records.Plan.{Plan}
 use Rattle.changes.specs.Accepted.{ifAccepted}
 use Rattle.changes.specs.declared.Change.{Change}
-use Rattle.close.specs.Close.{waitsIn, areasAfter, devicesAfter, halvesOf}
+use Rattle.close.specs.Close.{waitsIn, areasAfter, devicesAfter, wearOf, halvesOf}
 use Rattle.rules.specs.Admission.{rangeDevice, jobQuestions, releaseQuestions, cancelQuestions, infoQuestions, memoryInfoQuestions, roundNumber}
 use Rattle.rules.specs.Layout.{Layout, layoutOf, layoutAt}
 use Rattle.rules.specs.Machine.{Core, begin, cancel, release}
 use Rattle.rules.specs.Memory.{Memory}
 use Rattle.rules.specs.Ranks.{agesAfter}
 use Rattle.rules.specs.Queries.{noRequest, jobInfoOf, noMemoryInfo, memoryInfoOf}
+use Rattle.rules.specs.Wear.{noWearInfo, wornAt, wearInfoOf}
 use Rattle.state.specs.Ages.{ageIn}
 use Rattle.state.specs.Fresh.{noJob, noWaits}
 use Rattle.state.specs.declared.Area.{Area}
@@ -32,6 +33,7 @@ use Rattle.state.specs.declared.Job.{Job}
 use Rattle.state.specs.declared.JobInfo.{JobInfo}
 use Rattle.state.specs.declared.MemoryInfo.{MemoryInfo}
 use Rattle.state.specs.declared.Waits.{Waits}
+use Rattle.state.specs.declared.WearInfo.{WearInfo}
 use Rattle.manager.specs.declared.Manager.{Manager}
 
 -- jobs and devices, as the rules see them
@@ -53,6 +55,7 @@ withArea a j w m =
       areas = set (m .areas) a (record { job = j; waits = w });
       devices = m .devices;
       ages = m .ages;
+      wear = m .wear;
     }
 
 -- area a with a job that was accepted: also "the order in which pending jobs were accepted" (document 02, 01)
@@ -63,14 +66,15 @@ withAccepted a j w m =
       areas = set (m .areas) a (record { job = j; waits = w });
       devices = m .devices;
       ages = table 8 (agesAfter a (ageIn (m .ages))) 0 8;
+      wear = m .wear;
     }
 
 abbrev pub withDevice : ℕ → Device → Manager → Manager
-withDevice d x m = record { plan = m .plan; areas = m .areas; devices = set (m .devices) d x; ages = m .ages }
+withDevice d x m = record { plan = m .plan; areas = m .areas; devices = set (m .devices) d x; ages = m .ages; wear = m .wear }
 
 -- a manager of its parts, as an owner who keeps it in one place hands them to a call
-abbrev pub managerOf : Plan → List Area → List Device → List ℕ → Manager
-managerOf p areas devices ages = record { plan = p; areas = areas; devices = devices; ages = ages }
+abbrev pub managerOf : Plan → List Area → List Device → List ℕ → List ℕ → Manager
+managerOf p areas devices ages wear = record { plan = p; areas = areas; devices = devices; ages = ages; wear = wear }
 
 -- what a call hands back to that owner, written back
 abbrev pub changed : Manager → Change → Manager
@@ -80,6 +84,7 @@ changed m c =
       areas = set (m .areas) (c .«area_number») (c .area);
       devices = set (m .devices) (c .«device_number») (c .device);
       ages = c .ages;
+      wear = m .wear;
     }
 
 -- one of the five jobs, or a lock request: "An accepted job makes its area pending and sets processed length and counts to 0"
@@ -134,6 +139,10 @@ memoryInfoNumberOf m a address = soundNumber m (memoryInfoQuestions (m .plan) a 
 unfoldable pub memoryOfArea : Manager → ℕ → LogicalAddress → MemoryInfo
 memoryOfArea m a address = ifAccepted (memoryInfoNumberOf m a address) (memoryInfoOf (m .plan) a address) noMemoryInfo
 
+-- document 02, 05: a query "addressed and refused like memory info"
+unfoldable pub wearOfArea : Manager → ℕ → LogicalAddress → WearInfo
+wearOfArea m a address = ifAccepted (memoryInfoNumberOf m a address) (wearInfoOf (m .plan) (wornAt (m .wear)) a address) noWearInfo
+
 -- a round: "(round; after 9)", 18 and 19
 unfoldable pub roundNumberOf : Manager → Memory → ℕ
 roundNumberOf m lent = pick (isSound (m .plan) (m .areas) (m .devices)) (roundNumber (m .plan) (lent .image) (lent .store)) 9
@@ -142,7 +151,13 @@ unfoldable pub afterRound : Manager → List DeviceAnswer → Memory → Manager
 afterRound m answers lent =
     let after = halvesOf (m .plan) (m .areas) (m .devices) (m .ages) answers lent .core in
     ifAccepted (roundNumberOf m lent)
-    (record { plan = m .plan; areas = areasAfter (rankedOf m) (m .areas) after; devices = devicesAfter after; ages = m .ages })
+    (record {
+      plan = m .plan;
+      areas = areasAfter (rankedOf m) (m .areas) after;
+      devices = devicesAfter after;
+      ages = m .ages;
+      wear = wearOf (m .plan) (m .areas) (m .devices) answers lent (m .wear);
+    })
     m
 
 -- "lent memory untouched" where it is refused

@@ -11,9 +11,9 @@ use Rattle.state.specs.Ages.{firstAges}
 use Rattle.state.specs.Fresh.{freshArea, freeDevice}
 use Rattle.manager.specs.declared.Manager.{Manager}
 
--- the manager of a plan: every area fresh, with these ages; nothing runs and nothing is locked
+-- the manager of a plan: every area fresh, with these ages; nothing runs, nothing is locked, and nothing is worn
 unfoldable pub freshManager : Plan → List ℕ → Manager
-freshManager p ages = record { plan = p; areas = replicate 8 freshArea; devices = replicate 4 freeDevice; ages = ages }
+freshManager p ages = record { plan = p; areas = replicate 8 freshArea; devices = replicate 4 freeDevice; ages = ages; wear = replicate 32 0 }
 
 -- the manager of all zeros
 unfoldable pub zeroManager : Manager

@@ -1,7 +1,8 @@
 // The calls for an owner of a manager who keeps it in one place: each takes the manager's parts and hands back only what it changes, and the owner writes that back. So a call costs the
-// same however large the manager is. What the manager is then is what the calls by value return (`changed`, `afterJob` and its siblings).
+// same however large the manager is; what a call does not look at, as the wear, it is not given. What the manager is then is what the calls by value return (`changed`, `afterJob` and its siblings).
 ghost use mathlib.Core.Path.{_≡_};
-ghost use Prim.Native.Nat.{_<_};
+ghost use Prim.Native.Nat.{ℕ, _<_};
+ghost use mathlib.Core.List.{List};
 ghost use Rattle.memory.specs.Numbers.{admissionNumber};
 ghost use Rattle.effects.specs.Effects.{memoryOf};
 ghost use Rattle.manager.specs.Calls.{managerOf, changed, jobNumberOf, afterJob, releaseNumberOf, afterRelease, cancelNumberOf, afterCancel, roundNumberOf, afterRound, memoryAfterRound};
@@ -29,6 +30,7 @@ use state::DeviceState;
 pub struct RoundChange {
     pub areas: [Area; 8],
     pub devices: [Device; 4],
+    pub wear: [u32; 32],
     pub answer: Admission,
 }
 
@@ -41,8 +43,8 @@ pub fn job_change(
     area: usize,
     task: Task,
 ) -> Change
-    ensures { λ r. ⌜ admissionNumber (r .answer) ≡ jobNumberOf (managerOf plan areas devices ages) area task ⌝ }
-    ensures { λ r. ⌜ changed (managerOf plan areas devices ages) r ≡ afterJob (managerOf plan areas devices ages) area task ⌝ }
+    ensures { λ r. ⌜ ((wear : List ℕ) → admissionNumber (r .answer) ≡ jobNumberOf (managerOf plan areas devices ages wear) area task) ⌝ }
+    ensures { λ r. ⌜ ((wear : List ℕ) → changed (managerOf plan areas devices ages wear) r ≡ afterJob (managerOf plan areas devices ages wear) area task) ⌝ }
     ensures { λ r. ⌜ (r .«area_number» < 8) × (r .«device_number» < 4) ⌝ }
 {
     let asked = ask(plan, areas, devices, area);
@@ -60,8 +62,8 @@ pub fn cancel_change(
     ages: [u8; 8],
     area: usize,
 ) -> Change
-    ensures { λ r. ⌜ admissionNumber (r .answer) ≡ cancelNumberOf (managerOf plan areas devices ages) area ⌝ }
-    ensures { λ r. ⌜ changed (managerOf plan areas devices ages) r ≡ afterCancel (managerOf plan areas devices ages) area ⌝ }
+    ensures { λ r. ⌜ ((wear : List ℕ) → admissionNumber (r .answer) ≡ cancelNumberOf (managerOf plan areas devices ages wear) area) ⌝ }
+    ensures { λ r. ⌜ ((wear : List ℕ) → changed (managerOf plan areas devices ages wear) r ≡ afterCancel (managerOf plan areas devices ages wear) area) ⌝ }
     ensures { λ r. ⌜ (r .«area_number» < 8) × (r .«device_number» < 4) ⌝ }
 {
     let asked = ask(plan, areas, devices, area);
@@ -81,8 +83,8 @@ pub fn release_change(
     address: LogicalAddress,
     length: u32,
 ) -> Change
-    ensures { λ r. ⌜ admissionNumber (r .answer) ≡ releaseNumberOf (managerOf plan areas devices ages) area address length ⌝ }
-    ensures { λ r. ⌜ changed (managerOf plan areas devices ages) r ≡ afterRelease (managerOf plan areas devices ages) area address length ⌝ }
+    ensures { λ r. ⌜ ((wear : List ℕ) → admissionNumber (r .answer) ≡ releaseNumberOf (managerOf plan areas devices ages wear) area address length) ⌝ }
+    ensures { λ r. ⌜ ((wear : List ℕ) → changed (managerOf plan areas devices ages wear) r ≡ afterRelease (managerOf plan areas devices ages wear) area address length) ⌝ }
     ensures { λ r. ⌜ (r .«area_number» < 8) × (r .«device_number» < 4) ⌝ }
 {
     let sound = is_sound(plan, areas, devices);
@@ -112,14 +114,15 @@ pub fn round_change(
     areas: [Area; 8],
     devices: [Device; 4],
     ages: [u8; 8],
+    wear: [u32; 32],
     answers: [DeviceAnswer; 4],
     image: &mut [u8],
     store: &mut [u8],
 ) -> RoundChange
-    ensures { λ r. ⌜ admissionNumber (r .answer) ≡ roundNumberOf (managerOf plan areas devices ages) (memoryOf (now (image .entry)) (now (store .entry))) ⌝ }
-    ensures { λ r. ⌜ managerOf plan (r .areas) (r .devices) ages ≡ afterRound (managerOf plan areas devices ages) answers (memoryOf (now (image .entry)) (now (store .entry))) ⌝ }
-    ensures { λ _. ⌜ now (image .exit) ≡ memoryAfterRound (managerOf plan areas devices ages) answers (memoryOf (now (image .entry)) (now (store .entry))) .image ⌝ }
-    ensures { λ _. ⌜ now (store .exit) ≡ memoryAfterRound (managerOf plan areas devices ages) answers (memoryOf (now (image .entry)) (now (store .entry))) .store ⌝ }
+    ensures { λ r. ⌜ admissionNumber (r .answer) ≡ roundNumberOf (managerOf plan areas devices ages wear) (memoryOf (now (image .entry)) (now (store .entry))) ⌝ }
+    ensures { λ r. ⌜ managerOf plan (r .areas) (r .devices) ages (r .wear) ≡ afterRound (managerOf plan areas devices ages wear) answers (memoryOf (now (image .entry)) (now (store .entry))) ⌝ }
+    ensures { λ _. ⌜ now (image .exit) ≡ memoryAfterRound (managerOf plan areas devices ages wear) answers (memoryOf (now (image .entry)) (now (store .entry))) .image ⌝ }
+    ensures { λ _. ⌜ now (store .exit) ≡ memoryAfterRound (managerOf plan areas devices ages wear) answers (memoryOf (now (image .entry)) (now (store .entry))) .store ⌝ }
 {
     let asked = round_admission(plan, areas, devices, image, store);
     let answer = asked.answer;
@@ -127,16 +130,29 @@ pub fn round_change(
         Admission::Refused(_) => RoundChange {
             areas,
             devices,
+            wear,
             answer,
         },
         Admission::Accepted => {
             let dues = asked.dues;
-            let next = run_round(plan, answers, areas, devices, ages, dues, image, store);
+            let next = run_round(
+                plan,
+                answers,
+                areas,
+                devices,
+                ages,
+                dues,
+                wear,
+                image,
+                store,
+            );
             let areas = next.areas;
             let devices = next.devices;
+            let wear = next.wear;
             RoundChange {
                 areas,
                 devices,
+                wear,
                 answer,
             }
         }

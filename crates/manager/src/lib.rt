@@ -5,7 +5,7 @@ ghost use Rattle.plan.specs.Questions.{loadNumber};
 ghost use Prim.Native.Nat.{ℕ, _<_};
 ghost use mathlib.Core.List.{List};
 ghost use Rattle.memory.specs.declared.JobType.the-variants.{Write, Read, Compare, Erase, BlankCheck, Lock};
-ghost use Rattle.manager.specs.Calls.{managerOf, changed, jobNumberOf, afterJob, releaseNumberOf, afterRelease, cancelNumberOf, afterCancel, infoNumberOf, statusOf, resultOf, processedOf, noJobInfo, infoOf, jobTypeOf, memoryInfoNumberOf, memoryOfArea, roundNumberOf, afterRound, memoryAfterRound};
+ghost use Rattle.manager.specs.Calls.{managerOf, changed, jobNumberOf, afterJob, releaseNumberOf, afterRelease, cancelNumberOf, afterCancel, infoNumberOf, statusOf, resultOf, processedOf, noJobInfo, infoOf, jobTypeOf, memoryInfoNumberOf, memoryOfArea, wearOfArea, roundNumberOf, afterRound, memoryAfterRound};
 ghost use Rattle.devices.specs.Arrays.{jobIn};
 ghost use Rattle.effects.specs.Effects.{memoryOf};
 ghost use Rattle.manager.specs.Load.{freshManager, loadedManager};
@@ -31,6 +31,8 @@ use queries::job_info;
 use queries::memory_info;
 use queries::no_memory;
 use queries::no_request;
+use queries::no_wear;
+use queries::wear_info;
 use questions::cancel_admission;
 use questions::idle_admission;
 use questions::info_admission;
@@ -40,6 +42,7 @@ use state::Device;
 use state::Job;
 use state::JobInfo;
 use state::MemoryInfo;
+use state::WearInfo;
 
 // What the plan fixes, and what moves. An area's age is the number of other areas that had a job accepted since its own
 // latest one: among equal priorities the older is above.
@@ -48,6 +51,8 @@ pub struct Manager {
     pub areas: [Area; 8],
     pub devices: [Device; 4],
     pub ages: [u8; 8],
+    // document 02, 05: each sub-area's sum of sectors erased, which sticks
+    pub wear: [u32; 32],
 }
 
 // The answer to a load, and the manager: of all zeros where the load was refused.
@@ -88,6 +93,11 @@ pub struct MemoryInfoAnswer {
     pub info: MemoryInfo,
 }
 
+pub struct WearInfoAnswer {
+    pub answer: Admission,
+    pub info: WearInfo,
+}
+
 // The info of no job: all zeros.
 fn no_job_info() -> JobInfo
     ensures { λ r. ⌜ r ≡ noJobInfo ⌝ }
@@ -106,10 +116,10 @@ fn no_job_info() -> JobInfo
     }
 }
 
-// A job's info for an owner who keeps the manager in one place: the ages have no part in it.
+// A job's info for an owner who keeps the manager in one place: ages and wear have no part in it.
 pub fn info_of(plan: Plan, areas: [Area; 8], devices: [Device; 4], area: usize) -> JobInfoAnswer
-    ensures { λ r. ⌜ ((ages : List ℕ) → admissionNumber (r .answer) ≡ infoNumberOf (managerOf plan areas devices ages) area) ⌝ }
-    ensures { λ r. ⌜ ((ages : List ℕ) → r .info ≡ infoOf (managerOf plan areas devices ages) area) ⌝ }
+    ensures { λ r. ⌜ ((ages wear : List ℕ) → admissionNumber (r .answer) ≡ infoNumberOf (managerOf plan areas devices ages wear) area) ⌝ }
+    ensures { λ r. ⌜ ((ages wear : List ℕ) → r .info ≡ infoOf (managerOf plan areas devices ages wear) area) ⌝ }
 {
     let sound = is_sound(plan, areas, devices);
     let answer = info_admission(sound, plan, area);
@@ -136,6 +146,7 @@ impl Manager {
             areas,
             devices,
             ages,
+            wear: [0u32; 32],
         }
     }
 
@@ -413,6 +424,29 @@ impl Manager {
         }
     }
 
+    // Refused as memory info is: by the same questions.
+    pub fn wear_info(self, area: usize, address: LogicalAddress) -> WearInfoAnswer
+        ensures { λ r. ⌜ admissionNumber (r .answer) ≡ memoryInfoNumberOf self area address ⌝ }
+        ensures { λ r. ⌜ r .info ≡ wearOfArea self area address ⌝ }
+    {
+        let plan = self.plan;
+        let areas = self.areas;
+        let devices = self.devices;
+        let sound = is_sound(plan, areas, devices);
+        let answer = memory_admission(sound, plan, area, address);
+        match answer {
+            Admission::Refused(_) => {
+                let info = no_wear();
+                WearInfoAnswer { answer, info }
+            }
+            Admission::Accepted => {
+                let wear = self.wear;
+                let info = wear_info(plan, wear, area, address);
+                WearInfoAnswer { answer, info }
+            }
+        }
+    }
+
     // A round takes the four answers of its devices, one each, and is lent image and job store.
     pub fn round(
         mut self,
@@ -428,12 +462,15 @@ impl Manager {
         let areas = self.areas;
         let devices = self.devices;
         let ages = self.ages;
-        let change = round_change(self.plan, areas, devices, ages, answers, image, store);
+        let wear = self.wear;
+        let change = round_change(self.plan, areas, devices, ages, wear, answers, image, store);
         let answer = change.answer;
         let areas = change.areas;
         let devices = change.devices;
+        let wear = change.wear;
         self.areas = areas;
         self.devices = devices;
+        self.wear = wear;
         Answered {
             answer,
             manager: self,

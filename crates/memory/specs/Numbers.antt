@@ -25,7 +25,7 @@ statusNumber Statuses.Idle = 0
 statusNumber Statuses.Pending = 1
 statusNumber Statuses.Cancelling = 1
 
--- document 01, "Questions at the door"
+-- document 01, "Questions at the door"; document 02, 05
 abbrev pub refusalNumber : Refusal → ℕ
 refusalNumber Refusals.Records = 1
 refusalNumber Refusals.Counts = 2
@@ -46,6 +46,7 @@ refusalNumber Refusals.NotHolder = 16
 refusalNumber Refusals.NotPending = 17
 refusalNumber Refusals.ImageLength = 18
 refusalNumber Refusals.StoreLength = 19
+refusalNumber Refusals.Wear = 20
 
 -- "The first 'no' gives its number." "Acceptance is 0."
 abbrev pub admissionNumber : Admission → ℕ

@@ -85,7 +85,7 @@ impl JobResult {
     pub const CANCELED: JobResult = JobResult(3);
 }
 
-// Document 01, "Questions at the door": the question that was answered "no".
+// Document 01, "Questions at the door", and document 02: the question that was answered "no".
 pub enum Refusal {
     Records,
     Counts,
@@ -106,6 +106,7 @@ pub enum Refusal {
     NotPending,
     ImageLength,
     StoreLength,
+    Wear,
 }
 
 impl Refusal {
@@ -132,6 +133,7 @@ impl Refusal {
             Refusal::NotPending => 17,
             Refusal::ImageLength => 18,
             Refusal::StoreLength => 19,
+            Refusal::Wear => 20,
         }
     }
 }

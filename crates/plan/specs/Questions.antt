@@ -1,19 +1,20 @@
--- document 01, "Questions at the door", loading: questions 1 to 8
+-- document 01, "Questions at the door", loading: questions 1 to 8; document 02, 05: question 20
 use Prim.Native.Nat.{ℕ, zero, suc, _+_, _-_, _*_}
-use mathlib.Core.Bool.{Bool, _&&_, _||_}
+use mathlib.Core.Bool.{Bool, not, _&&_, _||_}
 use mathlib.Core.List.{List, [], _∷_}
 use lib.Dec.{ltb, leb, eqb}
 use lib.ListN.{length, getD}
 use Rattle.arith.specs.Bounded.{every, everyPair, some, sum}
 use Rattle.arith.specs.Cases.{pick}
-use Rattle.arith.specs.FirstNo.{firstNo}
+use Rattle.arith.specs.FirstNo.{firstNo, ask, orElse}
 use Rattle.arith.specs.Multiples.{multiple}
-use Rattle.plan.specs.Records.{noDevice, noArea, noSubArea, planOf, emptyPlan, recordsEnd}
+use Rattle.plan.specs.Records.{noDevice, noArea, noSubArea, planOf, emptyPlan, recordsEnd, subAreaCount, wearCount, wearOf}
 use Rattle.plan.specs.declared.records.DeviceRecord.{DeviceRecord}
 use Rattle.plan.specs.declared.records.AreaRecord.{AreaRecord}
 use Rattle.plan.specs.declared.records.Granularity.{Granularity}
 use Rattle.plan.specs.declared.records.SubAreaRecord.{SubAreaRecord}
 use Rattle.plan.specs.declared.records.Plan.{Plan}
+use Rattle.plan.specs.declared.records.WearRecord.{WearRecord}
 
 -- record i of each kind
 abbrev pub deviceOf : List DeviceRecord → ℕ → DeviceRecord
@@ -153,9 +154,22 @@ recordQuestions p =
 unfoldable pub planQuestions : Plan → List Bool
 planQuestions p = countsFit (p .«device_count») (p .«area_count») (p .«sub_area_count») ∷ recordQuestions p
 
--- "The first 'no' gives its number." "Acceptance is 0."
+-- 20. document 02, 05: "when a wear record names an unknown or repeated sub-area or endurance 0"
+-- one of the first n wear records names sub-area s
+abbrev pub isNamed : (ℕ → WearRecord) → ℕ → ℕ → Bool
+isNamed w n s = some (λ j. eqb (w j .«sub_area») s) n
+
+-- record i of those of a plan with this many sub-areas; a sub-area is repeated that an earlier record names
+unfoldable pub wearRecordFits : (ℕ → WearRecord) → ℕ → ℕ → Bool
+wearRecordFits w subAreas i =
+    ltb (w i .«sub_area») subAreas && (leb 1 (w i .endurance) && not (isNamed w i (w i .«sub_area»)))
+
+abbrev pub wearFits : List ℕ → Bool
+wearFits l = every (wearRecordFits (wearOf l) (subAreaCount l)) (wearCount l)
+
+-- "The first 'no' gives its number." "Acceptance is 0." Document 02, 05: "20 asked after 8"
 unfoldable pub loadNumber : List ℕ → ℕ
-loadNumber l = firstNo 1 (wholeRecords l ∷ planQuestions (planOf l))
+loadNumber l = orElse (firstNo 1 (wholeRecords l ∷ planQuestions (planOf l))) (ask 20 (wearFits l))
 
 -- the plan that the bytes load to; all zeros where they are refused
 unfoldable pub loadedPlan : List ℕ → Plan

@@ -13,6 +13,7 @@ use Rattle.plan.specs.declared.records.AreaRecord.{AreaRecord}
 use Rattle.plan.specs.declared.records.Granularity.{Granularity}
 use Rattle.plan.specs.declared.records.SubAreaRecord.{SubAreaRecord}
 use Rattle.plan.specs.declared.records.Plan.{Plan}
+use Rattle.plan.specs.declared.records.WearRecord.{WearRecord}
 use Rattle.plan.specs.declared.scan.RecordLayout.{RecordLayout}
 use Rattle.plan.specs.declared.scan.RecordFormat.{RecordFormat}
 
@@ -56,6 +57,10 @@ subAreaAt l at =
       «erase_retries» = numberAt 1 l (at + 37);
     }
 
+-- document 02, 05: "For each sub-area the plan may gain a record, mark hex 57 52: sub-area 1 byte, endurance 4 bytes (cycles per sector)"
+unfoldable pub wearAt : List ℕ → ℕ → WearRecord
+wearAt l at = record { «sub_area» = numberAt 1 l (at + 2); endurance = numberAt 4 l (at + 3) }
+
 -- the records of all zeros: what an entry holds that is not in use
 abbrev pub noDevice : DeviceRecord
 noDevice = record { start = 0; length = 0; «poll_limit» = 0; suspends = false; clears = false }
@@ -90,6 +95,9 @@ areaFormat = record { first = 65; seconds = replicate 3 82; size = 16 }
 abbrev pub subAreaFormat : RecordFormat
 subAreaFormat = record { first = 83; seconds = replicate 3 66; size = 38 }
 
+abbrev pub wearFormat : RecordFormat
+wearFormat = record { first = 87; seconds = replicate 3 82; size = 7 }
+
 -- a whole record with this mark stands at `at`
 unfoldable pub isRecord : RecordFormat → List ℕ → ℕ → Bool
 isRecord f l at = leb (at + f .size) (length l) && (eqb (getD l at 0) (f .first) && some (λ i. eqb (getD l (at + 1) 0) (getD (f .seconds) i 0)) 3)
@@ -119,8 +127,15 @@ subAreasStart l = areasStart l + areaCount l * 16
 unfoldable pub subAreaCount : List ℕ → ℕ
 subAreaCount l = recordsFrom subAreaFormat l (subAreasStart l)
 
+-- document 02, 05: "after all others"
+unfoldable pub wearStart : List ℕ → ℕ
+wearStart l = subAreasStart l + subAreaCount l * 38
+
+unfoldable pub wearCount : List ℕ → ℕ
+wearCount l = recordsFrom wearFormat l (wearStart l)
+
 unfoldable pub recordsEnd : List ℕ → ℕ
-recordsEnd l = subAreasStart l + subAreaCount l * 38
+recordsEnd l = wearStart l + wearCount l * 7
 
 -- how many records of each kind there are, and where the kinds begin and end
 unfoldable pub recordLayout : List ℕ → RecordLayout
@@ -131,8 +146,19 @@ recordLayout l =
       «sub_area_count» = subAreaCount l;
       «areas_start» = areasStart l;
       «sub_areas_start» = subAreasStart l;
+      «wear_start» = wearStart l;
+      «wear_count» = wearCount l;
       end = recordsEnd l;
     }
+
+-- wear record i
+abbrev pub wearOf : List ℕ → ℕ → WearRecord
+wearOf l i = wearAt l (wearStart l + i * 7)
+
+-- the endurance of sub-area s by the first n of these records; 0 where none of them names it
+unfoldable pub enduranceBy : (ℕ → WearRecord) → ℕ → ℕ → ℕ
+enduranceBy w zero s = 0
+enduranceBy w (suc n) s = pick (eqb (w n .«sub_area») s) (w n .endurance) (enduranceBy w n s)
 
 -- the plan's records; entries not in use are all zeros
 unfoldable pub planOf : List ℕ → Plan
@@ -144,6 +170,7 @@ planOf l =
       «device_count» = deviceCount l;
       «area_count» = areaCount l;
       «sub_area_count» = subAreaCount l;
+      endurance = table 32 (enduranceBy (wearOf l) (wearCount l)) 0 32;
     }
 
 -- the plan of all zeros
@@ -156,4 +183,5 @@ emptyPlan =
       «device_count» = 0;
       «area_count» = 0;
       «sub_area_count» = 0;
+      endurance = replicate 32 0;
     }

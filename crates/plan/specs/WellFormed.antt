@@ -4,6 +4,7 @@ use mathlib.Core.Path.{_≡_}
 use Rattle.plan.specs.Questions.{deviceOf, areaOf, subAreaOf, deviceEnd, windowEnd, lengthSum, sizeOf, endOf, areaSize}
 use Rattle.plan.specs.declared.records.Granularity.{Granularity}
 use Rattle.plan.specs.declared.records.Plan.{Plan}
+use Rattle.plan.specs.declared.records.WearRecord.{WearRecord}
 
 -- byte x is one of the n bytes from s on
 abbrev pub Among : ℕ → ℕ → ℕ → Type 0
@@ -57,3 +58,9 @@ pub record WellFormed (p : Plan) : Type 0 where
   pub bytes-apart : (i j : ℕ) → i < p .«sub_area_count» → j < p .«sub_area_count» → (i ≡ j → ⊥) → (x : ℕ) →
       Among (subAreaOf (p .«sub_areas») i .start) (sizeOf (subAreaOf (p .«sub_areas») i)) x →
       Among (subAreaOf (p .«sub_areas») j .start) (sizeOf (subAreaOf (p .«sub_areas») j)) x → ⊥
+
+-- document 02, 05: the n wear records of a plan with this many sub-areas, "at most one per sub-area"
+pub record WearFormed (w : ℕ → WearRecord) (subAreas n : ℕ) : Type 0 where
+  pub known : (i : ℕ) → i < n → w i .«sub_area» < subAreas
+  pub endurance-some : (i : ℕ) → i < n → 1 ≤ w i .endurance
+  pub once : (i j : ℕ) → i < n → j < n → w i .«sub_area» ≡ w j .«sub_area» → i ≡ j

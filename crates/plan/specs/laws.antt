@@ -1,4 +1,5 @@
 pub mod Whole
+pub mod WearLaws
 pub mod Accepted
 pub mod RecordLaws
 pub mod QuestionLaws

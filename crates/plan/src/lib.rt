@@ -3,3 +3,4 @@ pub mod checks;
 mod number;
 pub mod records;
 pub mod scan;
+pub mod wear;

@@ -5,7 +5,7 @@ ghost use mathlib.Core.Bool.{_||_};
 ghost use lib.Dec.{eqb};
 ghost use lib.ListN.{length};
 ghost use Rattle.arith.specs.Tables.{table};
-ghost use Rattle.plan.specs.Records.{deviceAt, areaAt, subAreaAt, granularityAt, noDevice, noArea, noGranularity, noSubArea, emptyPlan, planOf, recordLayout};
+ghost use Rattle.plan.specs.Records.{deviceAt, areaAt, subAreaAt, granularityAt, wearAt, enduranceBy, noDevice, noArea, noGranularity, noSubArea, emptyPlan, planOf, recordLayout};
 use crate::number::u8_at;
 use crate::number::u16_at;
 use crate::number::u32_at;
@@ -59,6 +59,12 @@ pub struct SubAreaRecord {
     pub erase_retries: u8,
 }
 
+// Document 02, 05: what a sub-area's sectors endure.
+pub struct WearRecord {
+    pub sub_area: u8,
+    pub endurance: u32,
+}
+
 // The records of a plan with how many of each kind are in use; the others are all zeros.
 #[repr(C)]
 pub struct Plan {
@@ -68,6 +74,8 @@ pub struct Plan {
     pub device_count: usize,
     pub area_count: usize,
     pub sub_area_count: usize,
+    // document 02, 05: cycles per sector of each sub-area; 0 is no record
+    pub endurance: [u32; 32],
 }
 
 // Does the second byte of a device's mark say that the chip can suspend?
@@ -205,6 +213,20 @@ impl SubAreaRecord {
     }
 }
 
+impl WearRecord {
+    pub(crate) fn read(bytes: &[u8], at: usize) -> WearRecord
+        requires { ⌜ at + 7 ≤ length (now bytes) ⌝ }
+        ensures { λ r. ⌜ r ≡ wearAt (now (bytes .entry)) at ⌝ }
+    {
+        let sub_area = u8_at(bytes, at + 2);
+        let endurance = u32_at(bytes, at + 3);
+        WearRecord {
+            sub_area,
+            endurance,
+        }
+    }
+}
+
 fn read_devices(bytes: &[u8], count: usize) -> [DeviceRecord; 4]
     requires { ⌜ (count ≤ 4) × (count * 12 ≤ length (now bytes)) ⌝ }
     ensures { λ r. ⌜ r ≡ table 4 (λ i. deviceAt (now (bytes .entry)) (i * 12)) noDevice count ⌝ }
@@ -244,6 +266,25 @@ fn read_sub_areas(bytes: &[u8], from: usize, count: usize) -> [SubAreaRecord; 32
     sub_areas
 }
 
+// The endurance of each sub-area, by the wear records from `from` on. One that names no sub-area that a plan has room for is passed over:
+// question 20 refuses it.
+fn read_endurance(bytes: &[u8], from: usize, count: usize) -> [u32; 32]
+    requires { ⌜ from + count * 7 ≤ length (now bytes) ⌝ }
+    ensures { λ r. ⌜ r ≡ table 32 (enduranceBy (λ i. wearAt (now (bytes .entry)) (from + i * 7)) count) 0 32 ⌝ }
+{
+    let mut endurance = [0u32; 32];
+    let mut i = 0;
+    while i < count {
+        let wear = WearRecord::read(bytes, from + i * 7);
+        let sub_area = wear.sub_area as usize;
+        if sub_area < 32 {
+            endurance[sub_area] = wear.endurance;
+        }
+        i += 1;
+    }
+    endurance
+}
+
 impl Plan {
     pub fn empty() -> Plan
         ensures { λ r. ⌜ r ≡ emptyPlan ⌝ }
@@ -255,6 +296,7 @@ impl Plan {
             device_count: 0,
             area_count: 0,
             sub_area_count: 0,
+            endurance: [0u32; 32],
         }
     }
 
@@ -267,6 +309,7 @@ impl Plan {
         let devices = read_devices(bytes, layout.device_count);
         let areas = read_areas(bytes, layout.areas_start, layout.area_count);
         let sub_areas = read_sub_areas(bytes, layout.sub_areas_start, layout.sub_area_count);
+        let endurance = read_endurance(bytes, layout.wear_start, layout.wear_count);
         Plan {
             devices,
             areas,
@@ -274,6 +317,7 @@ impl Plan {
             device_count: layout.device_count,
             area_count: layout.area_count,
             sub_area_count: layout.sub_area_count,
+            endurance,
         }
     }
 }

@@ -68,6 +68,8 @@ pub struct RecordLayout {
     pub sub_area_count: usize,
     pub areas_start: usize,
     pub sub_areas_start: usize,
+    pub wear_start: usize,
+    pub wear_count: usize,
     pub end: usize,
 }
 
@@ -102,12 +104,23 @@ pub fn record_layout(bytes: &[u8]) -> RecordLayout
             size: 38,
         },
     );
+    let wear = run_from(
+        bytes,
+        sub_areas.end,
+        RecordFormat {
+            first: b'W',
+            seconds: [b'R'; 3],
+            size: 7,
+        },
+    );
     RecordLayout {
         device_count: devices.count,
         area_count: areas.count,
         sub_area_count: sub_areas.count,
         areas_start: devices.end,
         sub_areas_start: areas.end,
-        end: sub_areas.end,
+        wear_start: sub_areas.end,
+        wear_count: wear.count,
+        end: wear.end,
     }
 }

@@ -3,7 +3,7 @@ use Prim.Native.Nat.{ℕ}
 use mathlib.Core.List.{List, [], _∷_}
 use Rattle.manager.specs.Calls.{jobNumberOf, afterJob, releaseNumberOf, afterRelease, cancelNumberOf, afterCancel, infoNumberOf, memoryInfoNumberOf, roundNumberOf, afterRound, memoryAfterRound}
 use Rattle.manager.specs.declared.Manager.{Manager}
-use Rattle.rules.specs.History.{Query, status, result, processed, jobInfo, memoryInfo, Call, submit, releases, cancels, asks, round}
+use Rattle.rules.specs.History.{Query, status, result, processed, jobInfo, memoryInfo, wearInfo, Call, submit, releases, cancels, asks, round}
 use Rattle.rules.specs.Memory.{Memory}
 
 -- the number that a call answers
@@ -13,6 +13,7 @@ managerQueryNumber (result a) m = infoNumberOf m a
 managerQueryNumber (processed a) m = infoNumberOf m a
 managerQueryNumber (jobInfo a) m = infoNumberOf m a
 managerQueryNumber (memoryInfo a address) m = memoryInfoNumberOf m a address
+managerQueryNumber (wearInfo a address) m = memoryInfoNumberOf m a address
 
 abbrev pub managerNumber : Call → Manager → ℕ
 managerNumber (submit a t) m = jobNumberOf m a t

@@ -12,6 +12,7 @@ use Rattle.close.specs.Close.{mostWaits, waitsIn}
 use Rattle.rules.specs.History.{Tally, History, freshHistory, step, run}
 use Rattle.rules.specs.Machine.{Core}
 use Rattle.rules.specs.statements.Moments.{Moment, Run}
+use Rattle.rules.specs.Wear.{stuckWear, wornAt}
 use Rattle.state.specs.Ages.{ageIn}
 use Rattle.state.specs.declared.Waits.{Waits}
 use Rattle.program.specs.Run.{managerNumber, managerAfter, managerMemory, runOf}
@@ -32,9 +33,9 @@ agesOf m = ageIn (m .ages)
 
 -- history h with these jobs and devices, and these ages
 abbrev pub withCoreAges : Core → (ℕ → ℕ) → History → History
-withCoreAges c ages h = record { core = c; ages = ages; tallies = h .tallies; done = h .done }
+withCoreAges c ages h = record { core = c; ages = ages; tallies = h .tallies; done = h .done; erases = h .erases }
 
--- the history's numbers and done requests, beside the jobs, devices and ages of the manager itself
+-- the history's numbers, done requests and done erases, beside the jobs, devices and ages of the manager itself
 abbrev pub beside : Manager → History → History
 beside m h = withCoreAges (coreOf m) (agesOf m) h
 
@@ -48,9 +49,12 @@ pub record Stands (p : Plan) (m : Manager) (h : History) : Type 0 where
   -- the order of acceptance
   pub ages : agesOf m ≡ h .ages
   pub waits : (a : ℕ) → a < 8 → waitsIn (m .areas) a ≡ stuck (h .tallies a)
+  -- each sub-area's wear: the sectors of the erases done, or the limit
+  pub wear-length : length (m .wear) ≡ 32
+  pub wear : (i : ℕ) → i < 32 → wornAt (m .wear) i ≡ stuckWear p (h .erases) i
 
 -- The program as a run of which the demands speak (rules/statements/Moments): jobs, devices, ages, numbers and memory are the manager's. The numbers
--- without a limit and the requests done are kept by the wait history of the same calls.
+-- without a limit, the requests and the erases done are kept by the wait history of the same calls.
 abbrev pub managerMoment : Plan → Manager → History → Moment
 managerMoment p m h =
     record {

@@ -6,7 +6,7 @@ use mathlib.Core.List.{List}
 use mathlib.Core.Logic.{_≢_}
 use mathlib.Core.Path.{_≡_}
 use Rattle.machine.specs.Sound.{isSound}
-use Rattle.manager.specs.Calls.{coreOf, statusOf, resultOf, processedOf, infoOf, memoryInfoNumberOf, memoryOfArea}
+use Rattle.manager.specs.Calls.{coreOf, statusOf, resultOf, processedOf, infoOf, memoryInfoNumberOf, memoryOfArea, wearOfArea}
 use Rattle.manager.specs.Load.{zeroManager, loadedManager}
 use Rattle.manager.specs.declared.Manager.{Manager}
 use Rattle.memory.specs.Numbers.{statusNumber}
@@ -19,6 +19,8 @@ use Rattle.rules.specs.Answers.{callNumber, callMemory, isRound}
 use Rattle.rules.specs.History.{jobInfo, Call, asks, round, History, freshHistory, run}
 use Rattle.rules.specs.Memory.{Memory}
 use Rattle.rules.specs.Queries.{jobInfoOf, memoryInfoOf}
+use Rattle.rules.specs.Wear.{wornIn, stuckWear, wornAt, wearInfoOf}
+use Rattle.wear.specs.Wear.{mostWear}
 use Rattle.rules.specs.statements.Statements.{RoundInside, AllDemands}
 use Rattle.program.specs.Run.{managerNumber, managerAfter, managerMemory, runOf}
 use Rattle.program.specs.Stands.{stuck, Stands, managerRun}
@@ -32,6 +34,9 @@ pub record Reported (p : Plan) (m : Manager) (h : History) (a : ℕ) : Type 0 wh
   pub result : resultOf m a ≡ h .core .jobs a .result
   pub processed : processedOf m a ≡ h .core .jobs a .processed
   pub memory-info : (address : LogicalAddress) → memoryInfoNumberOf m a address ≡ 0 → memoryOfArea m a address ≡ memoryInfoOf p a address
+  -- document 02, 05: the sum reported is that of the erases done, or 4,294,967,295 if that is smaller, and the charge that of this sum
+  pub wear-info : (address : LogicalAddress) → memoryInfoNumberOf m a address ≡ 0 →
+      wearOfArea m a address ≡ wearInfoOf p (stuckWear p (h .erases)) a address
 
 -- Manager m is the one that a list of calls returned, history h the wait history of the same calls.
 pub record Holds (p : Plan) (m : Manager) (h : History) : Type 0 where
@@ -42,6 +47,8 @@ pub record Holds (p : Plan) (m : Manager) (h : History) : Type 0 where
   pub answers : (k : Call) → managerNumber k m ≡ callNumber p k h
   pub memory : (k : Call) (lent : Memory) → managerMemory k m lent ≡ callMemory p k h lent
   pub reported : (a : ℕ) → a < p .«area_count» → Reported p m h a
+  -- document 02, 05: "For every list of calls the unstuck sum equals the sectors of done erases in the history."
+  pub unstuck : (i : ℕ) → i < 32 → wornAt (m .wear) i < mostWear → wornAt (m .wear) i ≡ wornIn p i (h .erases)
 
 -- "after every list of jobs, locks, releases, cancels, queries and rounds from an accepted load, refused ones included, whatever the chips
 -- answer and whatever image and store hold"

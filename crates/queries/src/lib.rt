@@ -5,6 +5,7 @@ ghost use Prim.Native.Nat.{_≤_, _<_};
 ghost use Rattle.plan.specs.Questions.{sizeOf};
 ghost use Rattle.rules.specs.Layout.{layoutOf};
 ghost use Rattle.rules.specs.Machine.{due, need};
+ghost use Rattle.rules.specs.Wear.{noWearInfo, wornAt, wearInfoOf};
 ghost use Rattle.rules.specs.Queries.{noRequest, requestOn, jobInfoOf, noMemoryInfo, memoryInfoIn, memoryInfoOf};
 ghost use Rattle.state.specs.Fresh.{freshArea};
 ghost use Rattle.devices.specs.Arrays.{jobIn, stateIn, coreIn};
@@ -25,6 +26,8 @@ use state::DeviceState;
 use state::JobInfo;
 use state::MemoryInfo;
 use state::RequestInfo;
+use state::WearInfo;
+use wear::charge_of;
 
 // No request: all zeros.
 pub fn no_request() -> RequestInfo
@@ -154,6 +157,36 @@ pub fn memory_info(plan: Plan, area: usize, address: LogicalAddress) -> MemoryIn
         } => {
             let records = plan.sub_areas;
             memory_in(address, records[sub_area], offset)
+        }
+    }
+}
+
+// No sub-area: all zeros.
+pub fn no_wear() -> WearInfo
+    ensures { λ r. ⌜ r ≡ noWearInfo ⌝ }
+{
+    WearInfo { sum: 0, charge: 0 }
+}
+
+// The wear of the sub-area in which the address lies, by the sums of the sub-areas.
+pub fn wear_info(plan: Plan, wear: [u32; 32], area: usize, address: LogicalAddress) -> WearInfo
+    requires { ⌜ (plan .«sub_area_count» ≤ 32) × (area < 8) ⌝ }
+    ensures { λ r. ⌜ r ≡ wearInfoOf plan (wornAt wear) area address ⌝ }
+{
+    let found = map_address(plan, area, address);
+    match found {
+        Found::Outside => no_wear(),
+        Found::At {
+            sub_area,
+            offset: _,
+            address: _,
+        } => {
+            let records = plan.sub_areas;
+            let endurances = plan.endurance;
+            let record = records[sub_area];
+            let sum = wear[sub_area];
+            let charge = charge_of(sum, endurances[sub_area], record.sector_count);
+            WearInfo { sum, charge }
         }
     }
 }

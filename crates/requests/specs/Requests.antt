@@ -25,12 +25,13 @@ use Rattle.rules.specs.Machine.{Core, Verdict, goesOn, finished, differs, faile
 use Rattle.rules.specs.Memory.{Memory, agrees, verdictOf, answeredMemory}
 use Rattle.rules.specs.Round.{windowPlace, clearsOnly}
 use Rattle.segment.specs.laws.Found.{segmentFrom, segment-from}
-use Rattle.segment.specs.Segments.{noSegment, segmentAt}
+use Rattle.segment.specs.Segments.{isErase, noSegment, segmentAt}
 use Rattle.segment.specs.declared.Segment.{Segment}
 use Rattle.state.specs.declared.DeviceState.{DeviceState}
 use Rattle.state.specs.declared.DeviceState.the-variants.{Free, Runs}
 use Rattle.state.specs.declared.Job.{Job}
 use Rattle.effects.specs.Effects.{lentEnd}
+use Rattle.wear.specs.Wear.{sectorsIn}
 
 -- The job and the device after a verdict. Test: is the request dropped where it goes on, since "polls reach the patience"?
 abbrev pub takenJob : Layout → ℕ → Verdict → Bool → Job → Job
@@ -63,6 +64,16 @@ dueWith s next goesOn = s
 dueWith s next finished = next
 dueWith s next differs = s
 dueWith s next failed = s
+
+-- document 02, 05: "Each done erase adds the number of sectors in its piece": of length n, in a sub-area with this sector
+abbrev pub isFinished : Verdict → Bool
+isFinished finished = true
+isFinished goesOn = false
+isFinished differs = false
+isFinished failed = false
+
+abbrev pub sectorsDone : Verdict → JobType → ℕ → ℕ → ℕ
+sectorsDone v k n sector = pick (isFinished v) (pick (isErase k) (sectorsIn n sector) 0) 0
 
 -- the segment behind s, which is due, where the answer may make it due
 abbrev pub nextOf : DeviceAnswer → List SubAreaRecord → ℕ → ℕ → ℕ → Job → Segment → Segment

@@ -6,7 +6,7 @@ ghost use Rattle.devices.specs.Arrays.{jobIn};
 ghost use Rattle.machine.specs.Sound.{isSound};
 ghost use Rattle.rules.specs.Admission.{imageFits, storeReaches};
 ghost use Rattle.rules.specs.Layout.{layoutAt};
-ghost use Rattle.close.specs.Close.{areasAfter, devicesAfter, halvesOf};
+ghost use Rattle.close.specs.Close.{areasAfter, devicesAfter, wearOf, halvesOf};
 ghost use Rattle.rounds.specs.laws.NeedLaws.{needsOf};
 ghost use Rattle.effects.specs.Effects.{memoryOf};
 ghost use Rattle.state.specs.Ages.{ageIn};
@@ -23,11 +23,13 @@ use plan::records::Plan;
 use segment::Segment;
 use state::Area;
 use state::Device;
+use wear::worn_to;
 
 // What moves in a manager.
 pub struct Arrays {
     pub areas: [Area; 8],
     pub devices: [Device; 4],
+    pub wear: [u32; 32],
 }
 
 // The devices that the pending jobs need: those of their due segments.
@@ -53,12 +55,14 @@ pub fn run_round(
     mut devices: [Device; 4],
     ages: [u8; 8],
     mut dues: [Segment; 8],
+    mut wear: [u32; 32],
     image: &mut [u8],
     store: &mut [u8],
 ) -> Arrays
     requires { ⌜ (isSound plan areas devices ≡ true) × (imageFits plan (now image) ≡ true) × (storeReaches plan (now store) ≡ true) × Due plan dues (jobIn areas) ⌝ }
     ensures { λ r. ⌜ r .areas ≡ areasAfter (layoutAt plan (ageIn ages)) areas (halvesOf plan areas devices ages answers (memoryOf (now (image .entry)) (now (store .entry))) .core) ⌝ }
     ensures { λ r. ⌜ r .devices ≡ devicesAfter (halvesOf plan areas devices ages answers (memoryOf (now (image .entry)) (now (store .entry))) .core) ⌝ }
+    ensures { λ r. ⌜ r .wear ≡ wearOf plan areas devices answers (memoryOf (now (image .entry)) (now (store .entry))) wear ⌝ }
     ensures { λ _. ⌜ now (image .exit) ≡ halvesOf plan areas devices ages answers (memoryOf (now (image .entry)) (now (store .entry))) .memory .image ⌝ }
     ensures { λ _. ⌜ now (store .exit) ≡ halvesOf plan areas devices ages answers (memoryOf (now (image .entry)) (now (store .entry))) .memory .store ⌝ }
 {
@@ -88,9 +92,12 @@ pub fn run_round(
         let entry = turn.area;
         let due = turn.due;
         let device = turn.device;
+        let worn = turn.worn;
+        let place = worn.sub_area as usize;
         areas[area] = entry;
         dues[area] = due;
         devices[d] = device;
+        wear[place] = worn_to(wear[place], worn.sectors);
         d += 1;
     }
     let needs = needed_devices(dues);
@@ -116,5 +123,9 @@ pub fn run_round(
         areas[a] = closed_area(records, ages, a as u8, before[a], areas[a], state);
         a += 1;
     }
-    Arrays { areas, devices }
+    Arrays {
+        areas,
+        devices,
+        wear,
+    }
 }

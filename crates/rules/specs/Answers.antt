@@ -5,7 +5,7 @@ use lib.Dec.{eqb}
 use Rattle.arith.specs.Cases.{pick}
 use Rattle.plan.specs.declared.records.Plan.{Plan}
 use Rattle.rules.specs.Admission.{jobNumber, releaseNumber, cancelNumber, infoNumber, memoryInfoNumber, roundNumber}
-use Rattle.rules.specs.History.{Query, status, result, processed, jobInfo, memoryInfo, Call, submit, releases, cancels, asks, round, History, lent}
+use Rattle.rules.specs.History.{Query, status, result, processed, jobInfo, memoryInfo, wearInfo, Call, submit, releases, cancels, asks, round, History, lent}
 use Rattle.rules.specs.Memory.{Memory}
 use Rattle.rules.specs.Round.{roundHalves}
 
@@ -16,6 +16,8 @@ queryNumber p (result a) = infoNumber p a
 queryNumber p (processed a) = infoNumber p a
 queryNumber p (jobInfo a) = infoNumber p a
 queryNumber p (memoryInfo a address) = memoryInfoNumber p a address
+-- document 02, 05: "refused like memory info"
+queryNumber p (wearInfo a address) = memoryInfoNumber p a address
 
 -- the number that a call gets: "The first 'no' gives its number." "Acceptance is 0."
 abbrev pub callNumber : Plan → Call → History → ℕ

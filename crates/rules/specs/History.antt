@@ -2,7 +2,7 @@
 -- state and reads no manager and no answer.
 use Prim.Native.Nat.{ℕ, _+_}
 use mathlib.Core.Bool.{Bool, true, false}
-use mathlib.Core.List.{List, [], _∷_}
+use mathlib.Core.List.{List, [], _∷_, _++_}
 use lib.Dec.{eqb}
 use Rattle.arith.specs.Cases.{pick}
 use Rattle.arith.specs.Parts.{upd}
@@ -17,7 +17,7 @@ use Rattle.rules.specs.Layout.{layoutOf, layoutAt}
 use Rattle.rules.specs.Machine.{Core, Wait, own, above, below, locked, none, isPending, waitOf, begin, cancel, release}
 use Rattle.rules.specs.Memory.{Memory}
 use Rattle.rules.specs.Admission.{rangeDevice, jobNumber, releaseNumber, cancelNumber, roundNumber}
-use Rattle.rules.specs.Round.{Half, roundHalves}
+use Rattle.rules.specs.Round.{Half, roundErases, roundHalves}
 
 pub data Query : Type 0 where
   status : ℕ → Query
@@ -25,6 +25,7 @@ pub data Query : Type 0 where
   processed : ℕ → Query
   jobInfo : ℕ → Query
   memoryInfo : ℕ → LogicalAddress → Query
+  wearInfo : ℕ → LogicalAddress → Query
 
 -- A call with its arguments; a job is one of the five or a lock request. "image and store may come with any length and bytes
 -- at each call"
@@ -47,13 +48,15 @@ pub record Tally : Type 0 where
 abbrev pub noTally : Tally
 noTally = record { rounds = 0; own = 0; above = 0; below = 0; locked = 0; byRound = false }
 
--- beside what the paper lists, the requests of each area's latest job that were done (demand 2)
+-- beside what the paper lists, the requests of each area's latest job that were done (demand 2), and the erases of all jobs that were done
+-- (document 02, 05), the newest first
 pub record History : Type 0 where
   pub core : Core
   -- document 02, 01: "the order in which pending jobs were accepted", as the areas' ages (Ranks)
   pub ages : ℕ → ℕ
   pub tallies : ℕ → Tally
   pub done : ℕ → List Segment
+  pub erases : List Segment
 
 -- "At the start nothing runs, is locked or pending, and the numbers are 0." No two areas have one age; which is the older does not
 -- matter, as none is pending.
@@ -64,6 +67,7 @@ freshHistory =
       ages = λ a. a;
       tallies = λ a. noTally;
       done = λ a. [];
+      erases = [];
     }
 
 -- one round more, with its wait
@@ -95,6 +99,7 @@ roundOf p answers mem h =
       ages = h .ages;
       tallies = λ a. close (isPending (h .core .jobs a)) (isPending (after .core .jobs a)) (waitOf (layoutAt p (h .ages)) (after .core) a) (h .tallies a);
       done = after .done;
+      erases = roundErases p answers (lent mem h) ++ h .erases;
     }
 
 -- "a job or lock sets its area's five numbers to 0"
@@ -105,10 +110,11 @@ submitted p a t h =
       ages = agesAfter a (h .ages);
       tallies = upd (h .tallies) a noTally;
       done = upd (h .done) a [];
+      erases = h .erases;
     }
 
 abbrev pub withCore : Core → History → History
-withCore c h = record { core = c; ages = h .ages; tallies = h .tallies; done = h .done }
+withCore c h = record { core = c; ages = h .ages; tallies = h .tallies; done = h .done; erases = h .erases }
 
 -- "A refused call or a query changes nothing." "9 refuses nothing here."
 unfoldable pub step : Plan → Call → History → History

@@ -7,6 +7,7 @@ pub mod Round
 pub mod History
 pub mod Answers
 pub mod Queries
+pub mod Wear
 pub mod Session
 pub mod statements
 pub mod runs

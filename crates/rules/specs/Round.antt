@@ -3,11 +3,14 @@ use Prim.Native.Nat.{ℕ, zero, suc, _+_}
 use mathlib.Core.Bool.{Bool}
 use mathlib.Core.List.{List, [], _∷_, _++_}
 use lib.ListN.{getD}
+use Rattle.arith.specs.Cases.{pick}
 use Rattle.arith.specs.Parts.{upd}
 use Rattle.memory.specs.declared.DeviceAnswer.{DeviceAnswer}
 use Rattle.memory.specs.declared.DeviceAnswer.the-variants as Answers
+use Rattle.memory.specs.declared.JobType.{JobType}
 use Rattle.plan.specs.Questions.{areaOf, deviceOf}
 use Rattle.plan.specs.declared.records.Plan.{Plan}
+use Rattle.segment.specs.Segments.{isErase}
 use Rattle.segment.specs.declared.Segment.{Segment}
 use Rattle.state.specs.declared.DeviceState.{DeviceState}
 use Rattle.state.specs.declared.DeviceState.the-variants.{Free, Runs, LockedFor}
@@ -59,11 +62,15 @@ doneOn p Free v jobs done = done
 doneOn p (LockedFor a) v jobs done = done
 doneOn p (Runs a polls) v jobs done = addDone v a (due (layoutOf p) a (jobs a)) done
 
+-- what device d's answer comes to
+abbrev pub verdictIn : Plan → ℕ → DeviceAnswer → Half → Verdict
+verdictIn p d x h = verdictOn p (h .core .devices d .state) x (h .core .jobs) (h .memory)
+
 -- one device takes its answer
 unfoldable pub takeIn : Plan → ℕ → DeviceAnswer → Half → Half
 takeIn p d x h =
     let state = h .core .devices d .state in
-    let v = verdictOn p state x (h .core .jobs) (h .memory) in
+    let v = verdictIn p d x h in
     record {
       core = takeAnswer (layoutOf p) d v (h .core);
       memory = memoryOn p d state x (h .core .jobs) (h .memory);
@@ -74,6 +81,29 @@ takeIn p d x h =
 unfoldable pub takeAll : Plan → List DeviceAnswer → ℕ → Half → Half
 takeAll p answers zero h = h
 takeAll p answers (suc n) h = takeIn p n (answerFor answers n) (takeAll p answers n h)
+
+-- document 02, 05: "Each done erase": where an answer finishes an erase, its segment is put before these
+abbrev pub addErase : Verdict → JobType → Segment → List Segment → List Segment
+addErase finished k s l = pick (isErase k) (s ∷ l) l
+addErase goesOn k s l = l
+addErase differs k s l = l
+addErase failed k s l = l
+
+abbrev pub erasesOn : Plan → DeviceState → Verdict → (ℕ → Job) → List Segment → List Segment
+erasesOn p Free v jobs l = l
+erasesOn p (LockedFor a) v jobs l = l
+erasesOn p (Runs a polls) v jobs l = addErase v (jobs a .task .kind) (due (layoutOf p) a (jobs a)) l
+
+-- the erases that the answers of the devices below n finish, the newest first
+unfoldable pub erasesTo : Plan → List DeviceAnswer → ℕ → Half → List Segment
+erasesTo p answers zero h = []
+erasesTo p answers (suc n) h =
+    let before = takeAll p answers n h in
+    erasesOn p (before .core .devices n .state) (verdictIn p n (answerFor answers n) before) (before .core .jobs) (erasesTo p answers n h)
+
+-- the erases done in a round
+abbrev pub roundErases : Plan → List DeviceAnswer → Half → List Segment
+roundErases p answers h = erasesTo p answers (p .«device_count») h
 
 -- both halves, when the areas have these ages
 unfoldable pub roundHalves : Plan → (ℕ → ℕ) → List DeviceAnswer → Half → Half

@@ -11,7 +11,7 @@ use Rattle.state.specs.declared.DeviceState.the-variants.{Free, Runs, LockedFor
 use Rattle.state.specs.declared.Job.{Job}
 use Rattle.rules.specs.Admission.{jobNumber, releaseNumber, cancelNumber, infoNumber, memoryInfoNumber, roundNumber}
 use Rattle.rules.specs.Answers.{callMemory}
-use Rattle.rules.specs.History.{Query, status, result, processed, jobInfo, memoryInfo, Call, submit, releases, cancels, asks, round, Tally, History, step}
+use Rattle.rules.specs.History.{Query, status, result, processed, jobInfo, memoryInfo, wearInfo, Call, submit, releases, cancels, asks, round, Tally, History, step}
 use Rattle.rules.specs.Layout.{layoutOf}
 use Rattle.rules.specs.Machine.{Core, due}
 use Rattle.rules.specs.Memory.{Memory}
@@ -53,6 +53,7 @@ entryOfQuery p (status a) h = number (infoNumber p a)
 entryOfQuery p (result a) h = number (infoNumber p a)
 entryOfQuery p (processed a) h = number (infoNumber p a)
 entryOfQuery p (memoryInfo a address) h = number (memoryInfoNumber p a address)
+entryOfQuery p (wearInfo a address) h = number (memoryInfoNumber p a address)
 
 -- what a call prints, from the history before it
 unfoldable pub entryOf : Plan → Call → History → Entry

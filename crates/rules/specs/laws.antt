@@ -38,4 +38,6 @@ pub mod Ordered
 pub mod Suspended
 pub mod ByAcceptance
 pub mod Devices
+pub mod WearLaws
+pub mod EraseLaws
 pub mod Demands

@@ -4,4 +4,5 @@ pub mod Pieces
 pub mod Jobs
 pub mod Order
 pub mod DoneRounds
+pub mod Erases
 pub mod Statements

@@ -3,3 +3,4 @@ pub mod PrintedSession
 pub mod ClosedRuns
 pub mod QueryRuns
 pub mod Reached
+pub mod WearRuns

@@ -70,10 +70,11 @@ segmentLength BlankCheck s p n = min n (s .read .burst)
 segmentLength Lock s p n = n
 segmentLength NoJob s p n = n
 
--- the segment at offset y of a sub-area, with r bytes of the job left
-abbrev pub segmentIn : JobType → SubAreaRecord → ℕ → ℕ → Segment
-segmentIn k s y r =
+-- the segment at offset y of sub-area i, with r bytes of the job left
+abbrev pub segmentIn : JobType → ℕ → SubAreaRecord → ℕ → ℕ → Segment
+segmentIn k i s y r =
     record {
+      «sub_area» = i;
       device = s .device;
       start = record { 0 = s .start + y };
       length = segmentLength k s (s .start + y) (min r (sizeOf s - y));
@@ -81,11 +82,11 @@ segmentIn k s y r =
     }
 
 abbrev pub noSegment : Segment
-noSegment = record { device = 0; start = record { 0 = 0 }; length = 0; retries = 0 }
+noSegment = record { «sub_area» = 0; device = 0; start = record { 0 = 0 }; length = 0; retries = 0 }
 
 abbrev pub segmentOf : JobType → List SubAreaRecord → ℕ → Found → Segment
 segmentOf k l r Outside = noSegment
-segmentOf k l r (At i y m) = segmentIn k (subAreaOf l i) y r
+segmentOf k l r (At i y m) = segmentIn k i (subAreaOf l i) y r
 
 -- the segment of area a's job that is due once x bytes are processed
 unfoldable pub segmentAt : Plan → ℕ → Task → ℕ → Segment

@@ -37,6 +37,7 @@ struct Seek {
 
 // A part of a job for one driver request: in one sub-area, with the retries that it may take.
 pub struct Segment {
+    pub sub_area: u8,
     pub device: u8,
     pub start: MemAddress,
     pub length: u64,
@@ -251,22 +252,24 @@ fn segment_length(kind: JobType, sub_area: SubAreaRecord, at: u64, n: u64) -> u6
     }
 }
 
-// The segment at an offset of a sub-area, which is at this address, with `left` bytes of the job left.
+// The segment at an offset of the sub-area with this number, which is at this address, with `left` bytes of the job left.
 fn segment_in(
     kind: JobType,
+    number: u8,
     sub_area: SubAreaRecord,
     offset: u64,
     start: MemAddress,
     left: u64,
 ) -> Segment
     requires { ⌜ (offset ≤ sizeOf «sub_area») × (start .0 ≡ «sub_area» .start + offset) ⌝ }
-    ensures { λ r. ⌜ r ≡ segmentIn kind «sub_area» offset left ⌝ }
+    ensures { λ r. ⌜ r ≡ segmentIn kind number «sub_area» offset left ⌝ }
 {
     let rest = sub_area.size() - offset;
     let n = least(left, rest);
     let length = segment_length(kind, sub_area, start.0, n);
     let retries = retries_of(kind, sub_area);
     Segment {
+        sub_area: number,
         device: sub_area.device,
         start,
         length,
@@ -278,6 +281,7 @@ pub fn no_segment() -> Segment
     ensures { λ r. ⌜ r ≡ noSegment ⌝ }
 {
     Segment {
+        sub_area: 0,
         device: 0,
         start: MemAddress(0),
         length: 0,
@@ -316,13 +320,13 @@ pub fn segment_found(task: Task, processed: u32, sub_area: SubAreaRecord, found:
     match found {
         Found::Outside => no_segment(),
         Found::At {
-            sub_area: _,
+            sub_area: number,
             offset,
             address,
         } => {
             let kind = task.kind;
             let left = minus(task.length as u64, processed as u64);
-            segment_in(kind, sub_area, offset, address, left)
+            segment_in(kind, number as u8, sub_area, offset, address, left)
         }
     }
 }

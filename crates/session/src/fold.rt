@@ -54,6 +54,7 @@ pub fn play_lines(
     let mut areas = manager.areas;
     let mut devices = manager.devices;
     let mut ages = manager.ages;
+    let mut wear = manager.wear;
     let mut at = 0;
     let mut end = 0;
     while at <= input.len() {
@@ -63,6 +64,7 @@ pub fn play_lines(
                 areas,
                 devices,
                 ages,
+                wear,
             };
             return Progress {
                 manager,
@@ -77,6 +79,7 @@ pub fn play_lines(
                 areas,
                 devices,
                 ages,
+                wear,
             };
             return Progress {
                 manager,
@@ -116,10 +119,11 @@ pub fn play_lines(
                 fourth,
             } => {
                 let answers = [first, second, third, fourth];
-                let change = round_change(plan, areas, devices, ages, answers, image, store);
+                let change = round_change(plan, areas, devices, ages, wear, answers, image, store);
                 let answer = change.answer;
                 areas = change.areas;
                 devices = change.devices;
+                wear = change.wear;
                 end = print_round(out, end, answer, plan, areas, devices);
                 continue;
             }
@@ -130,6 +134,7 @@ pub fn play_lines(
         areas,
         devices,
         ages,
+        wear,
     };
     Progress {
         manager,

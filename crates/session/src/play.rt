@@ -1,6 +1,7 @@
 // What a line's call changes of the manager, and its answer printed into a lent buffer, of which the bytes behind the answer are left open.
 ghost use mathlib.Core.Path.{_≡_};
-ghost use Prim.Native.Nat.{_+_, _≤_, _<_};
+ghost use Prim.Native.Nat.{ℕ, _+_, _≤_, _<_};
+ghost use mathlib.Core.List.{List};
 ghost use lib.ListN.{length};
 ghost use Rattle.devices.specs.Arrays.{coreIn};
 ghost use Rattle.changes.specs.Accepted.{ifAccepted};
@@ -73,8 +74,8 @@ pub fn make(
     ages: [u8; 8],
     call: LineCall,
 ) -> Change
-    ensures { λ r. ⌜ admissionNumber (r .answer) ≡ numberOfCall call (managerOf plan areas devices ages) ⌝ }
-    ensures { λ r. ⌜ changed (managerOf plan areas devices ages) r ≡ afterCall call (managerOf plan areas devices ages) ⌝ }
+    ensures { λ r. ⌜ ((wear : List ℕ) → admissionNumber (r .answer) ≡ numberOfCall call (managerOf plan areas devices ages wear)) ⌝ }
+    ensures { λ r. ⌜ ((wear : List ℕ) → changed (managerOf plan areas devices ages wear) r ≡ afterCall call (managerOf plan areas devices ages wear)) ⌝ }
     ensures { λ r. ⌜ (r .«area_number» < 8) × (r .«device_number» < 4) ⌝ }
 {
     let plain = plain_of(call);

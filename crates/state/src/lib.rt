@@ -78,6 +78,12 @@ pub struct MemoryInfo {
     pub device: u8,
 }
 
+// Document 02, 05: the wear of the sub-area that holds an address: its sum of sectors erased, and the charge in millionths.
+pub struct WearInfo {
+    pub sum: u32,
+    pub charge: u64,
+}
+
 impl Job {
     fn none() -> Job
         ensures { λ r. ⌜ r ≡ noJob ⌝ }

@@ -176,7 +176,7 @@ returns-5 c =
     refuses _ _ (c .refused4 .ensures) _ (range-long p a t (here .0) job (aligned ∙ not-false (c .before .before .before .before .is-aligned .result) (c .before .before .before .if4 .left)) (sym (c .before .before .fits-window .ensures) ∙ not-true (c .before .before .fits-window .result) (c .before .if5 .taken))) _
 
 segment-found-requires : tie.Need-segment-found-requires
-segment-found-requires c κs = rw (c .before .before .before .before .before .before .before .index-of .ensures) (mapped-inside (c .before .before .before .before .before .before .before .before .before .before .before .before .before .before .before .before .before .before .args .t1) (c .before .before .before .before .before .before .before .before .before .before .before .before .before .before .before .before .before .before .args .area) (c .before .before .before .before .before .before .before .before .before .before .before .before .before .before .before .before .before .before .args .task .address .0) _ (c .before .before .before .before .before .before .before .before .first-byte .ensures))
+segment-found-requires c κs = rw (c .before .before .before .before .before .before .before .index-of .ensures) (mapped-inside (c .before .before .before .before .before .before .before .before .before .before .before .before .before .before .before .before .before .before .args .t1) (c .before .before .before .before .before .before .before .before .before .before .before .before .before .before .before .before .before .before .args .area) (c .before .before .before .before .before .before .before .before .before .before .before .before .before .before .before .before .before .before .args .task .address .0) (c .before .before .before .before .before .before .before .before .before .before .before .before .before .before .before .before .before .before .pre .0) _ (c .before .before .before .before .before .before .before .before .first-byte .ensures))
 
 accepted-requires-2 : tie.Need-accepted-requires-2
 accepted-requires-2 c κs = search needs

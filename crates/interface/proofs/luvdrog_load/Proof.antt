@@ -24,9 +24,9 @@ device-views-requires c κs = search needs
 
 returns : tie.Need-returns
 returns c =
-    let l = c .before .before .before .before .before .before .before .before .load .ensures in
+    let l = c .before .before .before .before .before .before .before .before .before .load .ensures in
     rw (c .device-views .ensures, c .before .area-views .ensures)
-    (view-is _ _ (c .before .before .before .before .before .before .before .before .load .result .manager) (c .before .before .number .ensures ∙ l .0) (l .1))
+    (view-is _ _ (c .before .before .before .before .before .before .before .before .before .load .result .manager) (c .before .before .number .ensures ∙ l .0) (l .1))
 
 pub luvdrog-load-spec : {M : Type 1} → statement M
 luvdrog-load-spec =

@@ -12,7 +12,7 @@ use Rattle.loops.proofs.rounds.Lts as lts
 use Rattle.memory.proofs.Admission.number.Reads as number-reads
 use Rattle.loops.proofs.answer_of.Reads as answer-of-reads
 use Rattle.loops.proofs.busy.Reads as busy-reads
-use Rattle.loops.proofs.processed_sum.Reads as processed-sum-reads
+use Rattle.loops.proofs.left_sum.Reads as left-sum-reads
 use Rattle.manager.proofs.Manager.round.Reads as round-reads
 
 abbrev Inv-loop : tie.InvT-loop
@@ -69,8 +69,8 @@ loop-again c =
       omega arith,
     )
 
-processed-sum-requires : tie.Need-processed-sum-requires Inv-loop μ-loop
-processed-sum-requires c κs = search needs
+left-sum-requires : tie.Need-left-sum-requires Inv-loop μ-loop
+left-sum-requires c κs = search needs
 
 add-result : tie.Need-add-result Inv-loop μ-loop
 add-result c = search needs
@@ -87,7 +87,7 @@ returns c =
     let inv = here .inv in
     let all : c .before .before .before .before .before .before .before .before .args .times ≡ here .i = omega arith in
     rw (← (c .before .before .before .before .busy .ensures), ← (c .before .before .before .answer-of .ensures), all) (
-      rw (← (inv .3), ← (inv .4)) (ap (_+_ (here .sum)) (c .processed-sum .ensures .0)),
+      rw (← (inv .3), ← (inv .4)) (ap (_+_ (here .sum)) (c .left-sum .ensures .0)),
       (ap (λ b. b .lent .image) (inv .3), ap (λ b. b .lent .store) (inv .3)),
     )
 
@@ -107,7 +107,7 @@ rounds-spec =
     add-i
     loop-less
     loop-again
-    processed-sum-requires
+    left-sum-requires
     add-result
     same-length
     same-length-2

@@ -54,10 +54,10 @@ module _ (l : List SubAreaRecord) (n start a : ℕ) (j : Job) (f : Found) (e : f
       (λ t. index-within l a n start at f (e ∙ ap (λ u. pick u (located l n start a at) Outside) t) few)
       (λ t. rw (e, t) (omega arith))
 
-  pub due-inside : Inside (subAreaOf l (indexOf f)) f
-  due-inside =
+  pub due-inside : n ≤ 32 → Inside (subAreaOf l (indexOf f)) f
+  due-inside few =
       by-bool (isPending j)
-      (λ t. offset-inside l a n start at f (e ∙ ap (λ u. pick u (located l n start a at) Outside) t))
+      (λ t. offset-inside l a n start at f (e ∙ ap (λ u. pick u (located l n start a at) Outside) t) few)
       (λ t. rw (e, t) tt)
 
   pub due-turn : (i : ℕ) (r : Segment) → i ≡ indexOf f → r ≡ segmentIf (j .task .kind) (subAreaOf l i) (j .task .length - j .processed) f →

@@ -32,7 +32,7 @@ enum-told-2 c = search needs
 job-info-requires : tie.Need-job-info-requires
 job-info-requires c κs =
     let a = c .before .before .before .before .args in
-    let m = managerOf (a .plan) (a .areas) (a .devices) [] in
+    let m = managerOf (a .plan) (a .areas) (a .devices) [] [] in
     let number = info-number m (a .area) _ (c .before .before .before .is-sound .ensures) _ (c .before .before .info-admission .ensures) in
     info-few m (a .area) (sym number ∙ ap admissionNumber (c .enum-told2 .given .1))
 
@@ -41,9 +41,9 @@ returns c =
     let a = c .before .before .before .before .before .args in
     let sound = c .before .before .before .before .is-sound .ensures in
     let answer = c .before .before .before .info-admission .ensures in (
-      λ ages. info-number (managerOf (a .plan) (a .areas) (a .devices) ages) (a .area) _ sound _ answer,
-      λ ages.
-          let m = managerOf (a .plan) (a .areas) (a .devices) ages in
+      λ ages wear. info-number (managerOf (a .plan) (a .areas) (a .devices) ages wear) (a .area) _ sound _ answer,
+      λ ages wear.
+          let m = managerOf (a .plan) (a .areas) (a .devices) ages wear in
           c .no-job-info .ensures ∙ info-refused m (a .area) (refused-some _ _ (c .before .enum-told .given .1) _ (info-number m (a .area) _ sound _ answer)),
     )
 
@@ -52,9 +52,9 @@ returns-2 c =
     let a = c .before .before .before .before .before .args in
     let sound = c .before .before .before .before .is-sound .ensures in
     let answer = c .before .before .before .info-admission .ensures in (
-      λ ages. info-number (managerOf (a .plan) (a .areas) (a .devices) ages) (a .area) _ sound _ answer,
-      λ ages.
-          let m = managerOf (a .plan) (a .areas) (a .devices) ages in
+      λ ages wear. info-number (managerOf (a .plan) (a .areas) (a .devices) ages wear) (a .area) _ sound _ answer,
+      λ ages wear.
+          let m = managerOf (a .plan) (a .areas) (a .devices) ages wear in
           c .job-info .ensures ∙ info-accepted m (a .area) (sym (info-number m (a .area) _ sound _ answer) ∙ ap admissionNumber (c .before .enum-told2 .given .1)),
     )
 

@@ -22,15 +22,16 @@ use Rattle.questions.specs.laws.QuestionLaws.{devicesAlone}
 use Rattle.devices.specs.Arrays.{jobIn, deviceIn}
 use Rattle.machine.specs.Sound.{isSound}
 use Rattle.machine.specs.laws.SoundCases.{sound-few}
-use Rattle.close.specs.Close.{waitsIn, areasAfter, devicesAfter, halvesOf}
+use Rattle.close.specs.Close.{waitsIn, areasAfter, devicesAfter, wearOf, halvesOf}
 use Rattle.rules.specs.Admission.{isKnown, rangeDevice, releaseQuestions, infoQuestions, memoryInfoQuestions, imageFits, storeReaches, roundNumber}
 use Rattle.rules.specs.Layout.{layoutOf}
 use Rattle.rules.specs.Machine.{doing, cancel, release}
 use Rattle.rules.specs.Queries.{jobInfoOf, noMemoryInfo, memoryInfoOf}
+use Rattle.rules.specs.Wear.{noWearInfo, wornAt, wearInfoOf}
 use Rattle.state.specs.declared.DeviceState.the-variants.{Free}
 use Rattle.state.specs.declared.Job.{Job}
 use Rattle.state.specs.declared.JobInfo.{JobInfo}
-use Rattle.manager.specs.Calls.{coreOf, rankedOf, soundNumber, withArea, withDevice, jobNumberOf, afterJob, releaseNumberOf, afterRelease, cancelNumberOf, afterCancel, infoNumberOf, statusOf, resultOf, processedOf, noJobInfo, infoOf, jobTypeOf, memoryInfoNumberOf, memoryOfArea, roundNumberOf, afterRound, memoryAfterRound}
+use Rattle.manager.specs.Calls.{coreOf, rankedOf, soundNumber, withArea, withDevice, jobNumberOf, afterJob, releaseNumberOf, afterRelease, cancelNumberOf, afterCancel, infoNumberOf, statusOf, resultOf, processedOf, noJobInfo, infoOf, jobTypeOf, memoryInfoNumberOf, memoryOfArea, wearOfArea, roundNumberOf, afterRound, memoryAfterRound}
 use Rattle.manager.specs.declared.Manager.{Manager}
 
 -- the number n of each call, with the answer to question 9
@@ -150,6 +151,14 @@ module _ (m : Manager) (a : ℕ) (address : LogicalAddress) where
   unfolding memoryOfArea
   memory-accepted e = rw (eq-eqb (memoryInfoNumberOf m a address) 0 e)
 
+  pub wear-refused : eqb (memoryInfoNumberOf m a address) 0 ≡ false → noWearInfo ≡ wearOfArea m a address
+  unfolding wearOfArea
+  wear-refused e = rw e
+
+  pub wear-accepted : memoryInfoNumberOf m a address ≡ 0 → wearInfoOf (m .plan) (wornAt (m .wear)) a address ≡ wearOfArea m a address
+  unfolding wearOfArea
+  wear-accepted e = rw (eq-eqb (memoryInfoNumberOf m a address) 0 e)
+
 -- a round
 module _ (m : Manager) (answers : List DeviceAnswer) (lent : Memory) where
   pub round-asked : roundNumberOf m lent ≡ 0 →
@@ -169,12 +178,14 @@ module _ (m : Manager) (answers : List DeviceAnswer) (lent : Memory) where
   round-memory-refused e = rw e
 
   module _ (e : roundNumberOf m lent ≡ 0) where
-    pub round-accepted : (areas : List Area) (devices : List Device) →
+    pub round-accepted : (areas : List Area) (devices : List Device) (wear : List ℕ) →
         areas ≡ areasAfter (rankedOf m) (m .areas) (halvesOf (m .plan) (m .areas) (m .devices) (m .ages) answers lent .core) →
         devices ≡ devicesAfter (halvesOf (m .plan) (m .areas) (m .devices) (m .ages) answers lent .core) →
-        record { plan = m .plan; areas = areas; devices = devices; ages = m .ages } ≡ afterRound m answers lent
+        wear ≡ wearOf (m .plan) (m .areas) (m .devices) answers lent (m .wear) →
+        record { plan = m .plan; areas = areas; devices = devices; ages = m .ages; wear = wear } ≡ afterRound m answers lent
     unfolding afterRound
-    round-accepted areas devices f g = rw (eq-eqb (roundNumberOf m lent) 0 e) (λ i. record { plan = m .plan; areas = f i; devices = g i; ages = m .ages })
+    round-accepted areas devices wear f g h =
+        rw (eq-eqb (roundNumberOf m lent) 0 e) (λ i. record { plan = m .plan; areas = f i; devices = g i; ages = m .ages; wear = h i })
 
     pub round-memory-accepted : halvesOf (m .plan) (m .areas) (m .devices) (m .ages) answers lent .memory ≡ memoryAfterRound m answers lent
     unfolding memoryAfterRound

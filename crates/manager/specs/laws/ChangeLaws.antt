@@ -46,10 +46,10 @@ three true false i qs e = refl
 three true true false qs e = refl
 three true true true qs e = absurd (true≢false e)
 
-module _ (p : Plan) (areas : List Area) (devices : List Device) (ages : List ℕ) where
+module _ (p : Plan) (areas : List Area) (devices : List Device) (ages wear : List ℕ) where
   -- a call that was refused, and one that changes no area or no device
-  pub kept : (x : Admission) → changed (managerOf p areas devices ages) (unchanged areas devices ages x) ≡ managerOf p areas devices ages
-  kept x i = record { plan = p; areas = set-getD areas 0 freshArea i; devices = set-getD devices 0 freeDevice i; ages = ages }
+  pub kept : (x : Admission) → changed (managerOf p areas devices ages wear) (unchanged areas devices ages x) ≡ managerOf p areas devices ages wear
+  kept x i = record { plan = p; areas = set-getD areas 0 freshArea i; devices = set-getD devices 0 freeDevice i; ages = ages; wear = wear }
 
   module _ (a : ℕ) where
     placed : isSound p areas devices ≡ true → isKnown p a ≡ true → placeOf a ≡ a
@@ -72,12 +72,12 @@ module _ (p : Plan) (areas : List Area) (devices : List Device) (ages : List ℕ
       idle = is ∙ same-questions (λ j. not (isPending j) ∷ [])
 
       pub job-none : (q : Refusal) → x ≡ Refused q →
-          (admissionNumber x ≡ jobNumberOf (managerOf p areas devices ages) a t)
-          × (managerOf p areas devices ages ≡ afterJob (managerOf p areas devices ages) a t)
+          (admissionNumber x ≡ jobNumberOf (managerOf p areas devices ages wear) a t)
+          × (managerOf p areas devices ages wear ≡ afterJob (managerOf p areas devices ages wear) a t)
       unfolding jobNumberOf jobQuestions
       job-none q e =
           let number = idle ∙ three _ _ _ (rangeQuestions p a t) (refused-some x q e _ idle) in
-          (number, job-refused (managerOf p areas devices ages) a t (refused-some x q e _ number))
+          (number, job-refused (managerOf p areas devices ages wear) a t (refused-some x q e _ number))
 
       idle-yes : x ≡ Accepted → (isSound p areas devices ≡ true) × (isKnown p a ≡ true) × (not (isPending (jobIn areas a)) ≡ true)
       idle-yes e = let all = none-elim 9 _ (omega arith) (sym idle ∙ ap admissionNumber e) in (all 0 (omega arith), all 1 (omega arith), all 2 (omega arith))
@@ -85,41 +85,41 @@ module _ (p : Plan) (areas : List Area) (devices : List Device) (ages : List ℕ
       pub job-asked : x ≡ Accepted → p .«sub_area_count» ≤ 32
       job-asked e = sound-few p areas devices (idle-yes e .0) .1
 
-      begun-at : (y : Admission) (d : Device) → d ≡ getD devices 0 freeDevice → admissionNumber y ≡ jobNumberOf (managerOf p areas devices ages) a t →
-          changed (managerOf p areas devices ages) (begunChange y p (record { sound = isSound p areas devices; number = a; area = getD areas a freshArea }) d ages t)
-          ≡ afterJob (managerOf p areas devices ages) a t
+      begun-at : (y : Admission) (d : Device) → d ≡ getD devices 0 freeDevice → admissionNumber y ≡ jobNumberOf (managerOf p areas devices ages wear) a t →
+          changed (managerOf p areas devices ages wear) (begunChange y p (record { sound = isSound p areas devices; number = a; area = getD areas a freshArea }) d ages t)
+          ≡ afterJob (managerOf p areas devices ages wear) a t
       unfolding afterJob begin
       begun-at y d first n =
           let same : set devices 0 d ≡ devices = ap (set devices 0) first ∙ set-getD devices 0 freeDevice in
-          by-bool (eqb (jobNumberOf (managerOf p areas devices ages) a t) 0)
-          (λ e. rw (n, e) (λ i. record { plan = p; areas = set areas a (record { job = sym (upd-same (jobIn areas) a (begun (layoutOf p) a t (jobIn areas a))) i; waits = noWaits }); devices = same i; ages = table 8 (agesAfter a (ageIn ages)) 0 8 }))
-          (λ e. rw (n, e) (λ i. record { plan = p; areas = set-getD areas a freshArea i; devices = same i; ages = ages }))
+          by-bool (eqb (jobNumberOf (managerOf p areas devices ages wear) a t) 0)
+          (λ e. rw (n, e) (λ i. record { plan = p; areas = set areas a (record { job = sym (upd-same (jobIn areas) a (begun (layoutOf p) a t (jobIn areas a))) i; waits = noWaits }); devices = same i; ages = table 8 (agesAfter a (ageIn ages)) 0 8; wear = wear }))
+          (λ e. rw (n, e) (λ i. record { plan = p; areas = set-getD areas a freshArea i; devices = same i; ages = ages; wear = wear }))
 
       pub job-begun : x ≡ Accepted → (r : Change) (d : Device) → d ≡ getD devices 0 freeDevice → admissionNumber (r .answer) ≡ firstNo 12 (rangeQuestions p (placeOf a) t) →
           r ≡ begunChange (r .answer) p (askedArea p areas devices a) d ages t →
-          (admissionNumber (r .answer) ≡ jobNumberOf (managerOf p areas devices ages) a t)
-          × (changed (managerOf p areas devices ages) r ≡ afterJob (managerOf p areas devices ages) a t)
+          (admissionNumber (r .answer) ≡ jobNumberOf (managerOf p areas devices ages wear) a t)
+          × (changed (managerOf p areas devices ages wear) r ≡ afterJob (managerOf p areas devices ages wear) a t)
       unfolding jobNumberOf jobQuestions firstNo
       job-begun e r d first n f =
           let y = idle-yes e in
           let here = placed (y .0) (y .1) in
-          let number : admissionNumber (r .answer) ≡ jobNumberOf (managerOf p areas devices ages) a t = n ∙ ap (λ k. firstNo 12 (rangeQuestions p k t)) here ∙ rw (y .0, y .1, y .2) in (
+          let number : admissionNumber (r .answer) ≡ jobNumberOf (managerOf p areas devices ages wear) a t = n ∙ ap (λ k. firstNo 12 (rangeQuestions p k t)) here ∙ rw (y .0, y .1, y .2) in (
             number,
-            ap (changed (managerOf p areas devices ages)) f
-                ∙ ap (λ k. changed (managerOf p areas devices ages) (begunChange (r .answer) p (record { sound = isSound p areas devices; number = k; area = getD areas k freshArea }) d ages t)) here
+            ap (changed (managerOf p areas devices ages wear)) f
+                ∙ ap (λ k. changed (managerOf p areas devices ages wear) (begunChange (r .answer) p (record { sound = isSound p areas devices; number = k; area = getD areas k freshArea }) d ages t)) here
                 ∙ begun-at (r .answer) d first number,
           )
 
     -- a cancel: x is its answer
     module _ (x : Admission) (is : admissionNumber x ≡ firstNo 9 (isSound p areas devices ∷ isKnown p a ∷ skip 6 (isPending (jobIn areas (placeOf a)) ∷ []))) where
-      asked-number : admissionNumber x ≡ cancelNumberOf (managerOf p areas devices ages) a
+      asked-number : admissionNumber x ≡ cancelNumberOf (managerOf p areas devices ages wear) a
       unfolding cancelNumberOf cancelQuestions
       asked-number = is ∙ same-questions (λ j. skip 6 (isPending j ∷ []))
 
       pub cancel-none : (q : Refusal) → x ≡ Refused q →
-          (admissionNumber x ≡ cancelNumberOf (managerOf p areas devices ages) a)
-          × (managerOf p areas devices ages ≡ afterCancel (managerOf p areas devices ages) a)
-      cancel-none q e = (asked-number, cancel-refused (managerOf p areas devices ages) a (refused-some x q e _ asked-number))
+          (admissionNumber x ≡ cancelNumberOf (managerOf p areas devices ages wear) a)
+          × (managerOf p areas devices ages wear ≡ afterCancel (managerOf p areas devices ages wear) a)
+      cancel-none q e = (asked-number, cancel-refused (managerOf p areas devices ages wear) a (refused-some x q e _ asked-number))
 
       asked-yes : x ≡ Accepted → (isSound p areas devices ≡ true) × (isKnown p a ≡ true)
       unfolding cancelNumberOf cancelQuestions
@@ -129,28 +129,28 @@ module _ (p : Plan) (areas : List Area) (devices : List Device) (ages : List ℕ
       cancel-asked e = sound-few p areas devices (asked-yes e .0) .1
 
       stopped-at : x ≡ Accepted →
-          changed (managerOf p areas devices ages) (stoppedChange p (record { sound = isSound p areas devices; number = a; area = getD areas a freshArea }) devices ages)
-          ≡ afterCancel (managerOf p areas devices ages) a
+          changed (managerOf p areas devices ages wear) (stoppedChange p (record { sound = isSound p areas devices; number = a; area = getD areas a freshArea }) devices ages)
+          ≡ afterCancel (managerOf p areas devices ages wear) a
       stopped-at e =
-          (λ i. record { plan = p; areas = set areas a (record { job = cancel-alone (layoutOf p) a (coreOf (managerOf p areas devices ages)) i; waits = getD areas a freshArea .waits }); devices = set-getD devices 0 freeDevice i; ages = ages })
-          ∙ cancel-accepted (managerOf p areas devices ages) a (sym asked-number ∙ ap admissionNumber e)
+          (λ i. record { plan = p; areas = set areas a (record { job = cancel-alone (layoutOf p) a (coreOf (managerOf p areas devices ages wear)) i; waits = getD areas a freshArea .waits }); devices = set-getD devices 0 freeDevice i; ages = ages; wear = wear })
+          ∙ cancel-accepted (managerOf p areas devices ages wear) a (sym asked-number ∙ ap admissionNumber e)
 
       pub cancel-stopped : x ≡ Accepted → (r : Change) → r ≡ stoppedChange p (askedArea p areas devices a) devices ages →
-          (admissionNumber (r .answer) ≡ cancelNumberOf (managerOf p areas devices ages) a)
-          × (changed (managerOf p areas devices ages) r ≡ afterCancel (managerOf p areas devices ages) a)
+          (admissionNumber (r .answer) ≡ cancelNumberOf (managerOf p areas devices ages wear) a)
+          × (changed (managerOf p areas devices ages wear) r ≡ afterCancel (managerOf p areas devices ages wear) a)
       cancel-stopped e r f =
           let y = asked-yes e in (
             ap (λ z. admissionNumber (z .answer)) f ∙ ap admissionNumber (sym e) ∙ asked-number,
-            ap (changed (managerOf p areas devices ages)) f
-                ∙ ap (λ k. changed (managerOf p areas devices ages) (stoppedChange p (record { sound = isSound p areas devices; number = k; area = getD areas k freshArea }) devices ages)) (placed (y .0) (y .1))
+            ap (changed (managerOf p areas devices ages wear)) f
+                ∙ ap (λ k. changed (managerOf p areas devices ages wear) (stoppedChange p (record { sound = isSound p areas devices; number = k; area = getD areas k freshArea }) devices ages)) (placed (y .0) (y .1))
                 ∙ stopped-at e,
           )
 
   -- a release: d is the device that it frees
-  pub release-freed : (a : ℕ) (address : LogicalAddress) (n d : ℕ) (x : Admission) → d ≡ rangeDevice p a address n → releaseNumberOf (managerOf p areas devices ages) a address n ≡ 0 →
-      changed (managerOf p areas devices ages)
+  pub release-freed : (a : ℕ) (address : LogicalAddress) (n d : ℕ) (x : Admission) → d ≡ rangeDevice p a address n → releaseNumberOf (managerOf p areas devices ages wear) a address n ≡ 0 →
+      changed (managerOf p areas devices ages wear)
       (record { «area_number» = 0; area = getD areas 0 freshArea; «device_number» = d; device = doing Free (deviceIn devices d); ages = ages; answer = x })
-      ≡ afterRelease (managerOf p areas devices ages) a address n
+      ≡ afterRelease (managerOf p areas devices ages wear) a address n
   release-freed a address n d x is e =
-      (λ i. record { plan = p; areas = set-getD areas 0 freshArea i; devices = set devices d (doing Free (deviceIn devices d)); ages = ages })
-      ∙ release-accepted (managerOf p areas devices ages) a address n d is e
+      (λ i. record { plan = p; areas = set-getD areas 0 freshArea i; devices = set devices d (doing Free (deviceIn devices d)); ages = ages; wear = wear })
+      ∙ release-accepted (managerOf p areas devices ages wear) a address n d is e

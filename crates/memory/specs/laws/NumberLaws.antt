@@ -26,3 +26,4 @@ refusal-some Refusals.NotHolder = omega arith
 refusal-some Refusals.NotPending = omega arith
 refusal-some Refusals.ImageLength = omega arith
 refusal-some Refusals.StoreLength = omega arith
+refusal-some Refusals.Wear = omega arith

@@ -14,6 +14,7 @@ use Rattle.plan.specs.Records.{
   deviceFormat,
   areaFormat,
   subAreaFormat,
+  wearFormat,
   isRecord,
   recordsUpTo,
   recordsFrom,
@@ -22,11 +23,15 @@ use Rattle.plan.specs.Records.{
   subAreaCount,
   areasStart,
   subAreasStart,
+  wearStart,
+  wearCount,
   recordsEnd,
   recordLayout,
   deviceAt,
   areaAt,
   subAreaAt,
+  wearAt,
+  enduranceBy,
   noDevice,
   noArea,
   noSubArea,
@@ -64,23 +69,35 @@ module _ (f : RecordFormat) (l : List ℕ) where
   run-end zero at e = refl
   run-end (suc most) at e = rw e
 
--- three runs, each from where the last ended, are the layout
-pub layout-is : (l : List ℕ) (d a s areas subAreas end : ℕ) →
+-- four runs, each from where the last ended, are the layout
+pub layout-is : (l : List ℕ) (d a s w areas subAreas wear end : ℕ) →
     d ≡ recordsFrom deviceFormat l 0 → areas ≡ 0 + d * 12 →
     a ≡ recordsFrom areaFormat l areas → subAreas ≡ areas + a * 16 →
-    s ≡ recordsFrom subAreaFormat l subAreas → end ≡ subAreas + s * 38 →
-    record { «device_count» = d; «area_count» = a; «sub_area_count» = s; «areas_start» = areas; «sub_areas_start» = subAreas; end = end } ≡ recordLayout l
-unfolding recordLayout recordsEnd subAreaCount subAreasStart areaCount areasStart deviceCount
-layout-is l d a s areas subAreas end hd h1 ha h2 hs h3 = rw (h3, hs, h2, ha, h1, hd, zero-add)
+    s ≡ recordsFrom subAreaFormat l subAreas → wear ≡ subAreas + s * 38 →
+    w ≡ recordsFrom wearFormat l wear → end ≡ wear + w * 7 →
+    record {
+      «device_count» = d;
+      «area_count» = a;
+      «sub_area_count» = s;
+      «areas_start» = areas;
+      «sub_areas_start» = subAreas;
+      «wear_start» = wear;
+      «wear_count» = w;
+      end = end;
+    }
+    ≡ recordLayout l
+unfolding recordLayout recordsEnd wearCount wearStart subAreaCount subAreasStart areaCount areasStart deviceCount
+layout-is l d a s w areas subAreas wear end hd h1 ha h2 hs h3 hw h4 = rw (h4, hw, h3, hs, h2, ha, h1, hd, zero-add)
 
 -- what a layout says: each kind begins where the last ended
 module _ (l : List ℕ) (k : RecordLayout) (e : k ≡ recordLayout l) where
   pub layout-steps :
       (k .«areas_start» ≡ k .«device_count» * 12)
       × (k .«sub_areas_start» ≡ k .«areas_start» + k .«area_count» * 16)
-      × (k .end ≡ k .«sub_areas_start» + k .«sub_area_count» * 38)
-  unfolding recordLayout recordsEnd subAreasStart areasStart
-  layout-steps = rw e (refl, refl, refl)
+      × (k .«wear_start» ≡ k .«sub_areas_start» + k .«sub_area_count» * 38)
+      × (k .end ≡ k .«wear_start» + k .«wear_count» * 7)
+  unfolding recordLayout recordsEnd wearStart subAreasStart areasStart
+  layout-steps = rw e (refl, refl, refl, refl)
 
   -- the plan by the layout
   pub plan-by-layout :
@@ -91,6 +108,7 @@ module _ (l : List ℕ) (k : RecordLayout) (e : k ≡ recordLayout l) where
         «device_count» = k .«device_count»;
         «area_count» = k .«area_count»;
         «sub_area_count» = k .«sub_area_count»;
+        endurance = table 32 (enduranceBy (λ i. wearAt l (k .«wear_start» + i * 7)) (k .«wear_count»)) 0 32;
       }
       ≡ planOf l
   unfolding recordLayout planOf

@@ -13,6 +13,7 @@ use Rattle.plan.specs.Records.{
   deviceFormat,
   areaFormat,
   subAreaFormat,
+  wearFormat,
   isRecord,
   recordsUpTo,
   recordsFrom,
@@ -21,6 +22,8 @@ use Rattle.plan.specs.Records.{
   areaCount,
   subAreasStart,
   subAreaCount,
+  wearStart,
+  wearCount,
   recordsEnd,
 }
 use Rattle.plan.specs.Questions.{wholeRecords}
@@ -32,12 +35,14 @@ pub record Record (f : RecordFormat) (l : List ℕ) (at : ℕ) : Type 0 where
   pub first-mark : getD l at 0 ≡ f .first
   pub second-mark : (i : ℕ) × (i < 3) × (getD l (at + 1) 0 ≡ getD (f .seconds) i 0)
 
--- "Whole records with known marks, in the order of kinds": d devices, a areas, s sub-areas, and nothing else
-pub record Whole (l : List ℕ) (d a s : ℕ) : Type 0 where
-  pub bytes : length l ≡ d * 12 + a * 16 + s * 38
+-- "Whole records with known marks, in the order of kinds": d devices, a areas, s sub-areas, w wear records "after all others" (document 02, 05),
+-- and nothing else
+pub record Whole (l : List ℕ) (d a s w : ℕ) : Type 0 where
+  pub bytes : length l ≡ d * 12 + a * 16 + s * 38 + w * 7
   pub devices : (i : ℕ) → i < d → Record deviceFormat l (i * 12)
   pub areas : (i : ℕ) → i < a → Record areaFormat l (d * 12 + i * 16)
   pub sub-areas : (i : ℕ) → i < s → Record subAreaFormat l (d * 12 + a * 16 + i * 38)
+  pub wears : (i : ℕ) → i < w → Record wearFormat l (d * 12 + a * 16 + s * 38 + i * 7)
 
 -- the place of record 0
 place-first : (at size : ℕ) → at + 0 * size ≡ at
@@ -111,50 +116,67 @@ module _ (l : List ℕ) where
       unfolding subAreaCount subAreasStart areasStart recordsFrom
       sub-areas-from = rw (devices, areas)
 
-      end-from : (s : ℕ) → subAreaCount l ≡ s → recordsEnd l ≡ d * 12 + a * 16 + s * 38
-      unfolding recordsEnd subAreasStart areasStart
-      end-from s sub-areas = rw (devices, areas, sub-areas)
+      module _ (s : ℕ) (sub-areas : subAreaCount l ≡ s) where
+        wears-from : wearCount l ≡ recordsUpTo (length l) wearFormat l (d * 12 + a * 16 + s * 38)
+        unfolding wearCount wearStart subAreasStart areasStart recordsFrom
+        wears-from = rw (devices, areas, sub-areas)
+
+        end-from : (w : ℕ) → wearCount l ≡ w → recordsEnd l ≡ d * 12 + a * 16 + s * 38 + w * 7
+        unfolding recordsEnd wearStart subAreasStart areasStart
+        end-from w wears = rw (devices, areas, sub-areas, wears)
 
 -- whole records are counted as they stand, kind by kind, to the end
-module _ (l : List ℕ) (d a s : ℕ) (w : Whole l d a s) where
+module _ (l : List ℕ) (d a s w : ℕ) (whole : Whole l d a s w) where
   -- no record stands behind the last
-  none-last : (f : RecordFormat) → 1 ≤ f .size → Record f l (d * 12 + a * 16 + s * 38) → ⊥
-  none-last f h r = omega arith
+  none-last : (f : RecordFormat) → 1 ≤ f .size → Record f l (d * 12 + a * 16 + s * 38 + w * 7) → ⊥
+  none-last f h r = omega (arith, whole .bytes, r .inside)
 
-  -- no record of another kind stands where the sub-areas begin
-  none-next : (f : RecordFormat) → 1 ≤ f .size → (f .first ≡ subAreaFormat .first → ⊥) → Record f l (d * 12 + a * 16) → ⊥
-  none-next f h differ = none-before f subAreaFormat l (d * 12 + a * 16) s differ (w .sub-areas) (none-last f h)
+  -- no record of another kind stands where the wear records begin, nor where the sub-areas do
+  none-wear : (f : RecordFormat) → 1 ≤ f .size → (f .first ≡ wearFormat .first → ⊥) → Record f l (d * 12 + a * 16 + s * 38) → ⊥
+  none-wear f h differ = none-before f wearFormat l (d * 12 + a * 16 + s * 38) w differ (whole .wears) (none-last f h)
+
+  none-next : (f : RecordFormat) → 1 ≤ f .size → (f .first ≡ wearFormat .first → ⊥) → (f .first ≡ subAreaFormat .first → ⊥) →
+      Record f l (d * 12 + a * 16) → ⊥
+  none-next f h wear differ = none-before f subAreaFormat l (d * 12 + a * 16) s differ (whole .sub-areas) (none-wear f h wear)
 
   devices-read : deviceCount l ≡ d
   devices-read =
       devices-from l
-      ∙ count deviceFormat l (length l) d 0 (omega arith) (simp zero-add (w .devices))
-      (rw zero-add (none-before deviceFormat areaFormat l (d * 12) a (omega arith) (w .areas) (none-next deviceFormat (omega arith) (omega arith))))
+      ∙ count deviceFormat l (length l) d 0 (omega (arith, whole .bytes)) (simp zero-add (whole .devices))
+      (rw zero-add
+      (none-before deviceFormat areaFormat l (d * 12) a (omega arith) (whole .areas) (none-next deviceFormat (omega arith) (omega arith) (omega arith))))
 
   areas-read : areaCount l ≡ a
   areas-read =
       areas-from l d devices-read
-      ∙ count areaFormat l (length l) a (d * 12) (omega arith) (w .areas) (none-next areaFormat (omega arith) (omega arith))
+      ∙ count areaFormat l (length l) a (d * 12) (omega (arith, whole .bytes)) (whole .areas) (none-next areaFormat (omega arith) (omega arith) (omega arith))
 
   sub-areas-read : subAreaCount l ≡ s
   sub-areas-read =
       sub-areas-from l d devices-read a areas-read
-      ∙ count subAreaFormat l (length l) s (d * 12 + a * 16) (omega arith) (w .sub-areas) (none-last subAreaFormat (omega arith))
+      ∙ count subAreaFormat l (length l) s (d * 12 + a * 16) (omega (arith, whole .bytes)) (whole .sub-areas) (none-wear subAreaFormat (omega arith) (omega arith))
+
+  wears-read : wearCount l ≡ w
+  wears-read =
+      wears-from l d devices-read a areas-read s sub-areas-read
+      ∙ count wearFormat l (length l) w (d * 12 + a * 16 + s * 38) (omega (arith, whole .bytes)) (whole .wears) (none-last wearFormat (omega arith))
 
   end-read : recordsEnd l ≡ length l
-  end-read = end-from l d devices-read a areas-read s sub-areas-read ∙ sym (w .bytes)
+  end-read = end-from l d devices-read a areas-read s sub-areas-read w wears-read ∙ sym (whole .bytes)
 
 -- question 1 and the counts say exactly what stands in the bytes: they are read in one way only
-pub whole : (l : List ℕ) (d a s : ℕ) →
-    Whole l d a s ↔ ((wholeRecords l ≡ true) × (deviceCount l ≡ d) × (areaCount l ≡ a) × (subAreaCount l ≡ s))
+pub whole : (l : List ℕ) (d a s w : ℕ) →
+    Whole l d a s w ↔ ((wholeRecords l ≡ true) × (deviceCount l ≡ d) × (areaCount l ≡ a) × (subAreaCount l ≡ s) × (wearCount l ≡ w))
 unfolding wholeRecords
-whole l d a s = (
-  λ w. (simp plain (end-read l d a s w), devices-read l d a s w, areas-read l d a s w, sub-areas-read l d a s w),
-  λ (e, devices, areas, sub-areas).
+whole l d a s w = (
+  λ x.
+      (simp plain (end-read l d a s w x), devices-read l d a s w x, areas-read l d a s w x, sub-areas-read l d a s w x, wears-read l d a s w x),
+  λ (e, devices, areas, sub-areas, wears).
       record {
-        bytes = sym (simp plain at e) ∙ end-from l d devices a areas s sub-areas;
+        bytes = sym (simp plain at e) ∙ end-from l d devices a areas s sub-areas w wears;
         devices = simp zero-add at (rw (sym (devices-from l) ∙ devices) at (counted deviceFormat l (length l) 0));
         areas = rw (sym (areas-from l d devices) ∙ areas) at (counted areaFormat l (length l) (d * 12));
         sub-areas = rw (sym (sub-areas-from l d devices a areas) ∙ sub-areas) at (counted subAreaFormat l (length l) (d * 12 + a * 16));
+        wears = rw (sym (wears-from l d devices a areas s sub-areas) ∙ wears) at (counted wearFormat l (length l) (d * 12 + a * 16 + s * 38));
       },
 )

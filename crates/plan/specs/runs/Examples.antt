@@ -3,8 +3,9 @@ use Prim.Native.Nat.{ℕ, zero, suc, _/_, _%_}
 use mathlib.Core.Bool.{Bool, true, false}
 use mathlib.Core.Path.{_≡_, refl}
 use mathlib.Core.List.{List, [], _∷_, _++_}
+use lib.ListN.{replicate}
 use Rattle.arith.specs.Bounded.{every, some, sum}
-use Rattle.arith.specs.FirstNo.{firstNo}
+use Rattle.arith.specs.FirstNo.{firstNo, ask, orElse}
 use Rattle.arith.specs.Multiples.{multiple}
 use Rattle.arith.specs.Tables.{table}
 use Rattle.plan.specs.Number.{numberAt}
@@ -49,6 +50,21 @@ planT = planWith 64 2 32
 abbrev planMarked : ℕ → ℕ → ℕ → List ℕ
 planMarked x y z = planOn (markedDevice x 0 64 2 ++ markedDevice y 64 16 2 ++ markedDevice z 80 16 2) 32
 
+-- document 02, 05: a wear record
+abbrev pub wear : ℕ → ℕ → List ℕ
+wear subArea endurance = 87 ∷ 82 ∷ bytes 1 subArea ++ bytes 4 endurance
+
+-- this many of one wear record
+abbrev wears : ℕ → ℕ → ℕ → List ℕ
+wears zero subArea endurance = []
+wears (suc n) subArea endurance = wear subArea endurance ++ wears n subArea endurance
+
+-- plan T with records before its sub-areas, with the second of them at this start, and with records behind them
+abbrev planAround : List ℕ → ℕ → List ℕ → List ℕ
+planAround before start behind =
+    device 0 64 2 ++ area 1 0 0 16 ++ area 5 256 16 16 ++ before ++ subArea 0 0 0 (sizes 16 32 4 8 1 8) 2 1 0
+    ++ subArea 1 0 start (sizes 16 16 4 4 1 4) 2 0 0 ++ behind
+
 -- three areas on a device with this second byte of its mark and this poll limit
 abbrev pub planE : ℕ → ℕ → List ℕ
 planE second limit =
@@ -76,5 +92,21 @@ pub examples :
     × (marks 0 ≡ (true, true))
     × (marks 1 ≡ (true, false))
     × (marks 2 ≡ (false, false))
-unfolding firstNo every some sum multiple table numberAt loadNumber questions.wholeRecords questions.planQuestions questions.recordQuestions questions.countsFit questions.devicesJoin questions.deviceJoins questions.deviceDue questions.windowsFit questions.windowsApart questions.apart questions.sizesFit questions.granularityFits questions.allPlaced questions.isPlaced questions.insideDevice questions.spacesFit questions.spaceFits questions.sizeIn questions.subAreasApart records.planOf records.recordsEnd records.subAreasStart records.areasStart records.deviceCount records.areaCount records.subAreaCount records.recordsFrom records.recordsUpTo records.isRecord records.deviceAt records.areaAt records.subAreaAt records.granularityAt
+unfolding firstNo ask orElse every some sum multiple table numberAt loadNumber questions.wholeRecords questions.planQuestions questions.recordQuestions questions.countsFit questions.devicesJoin questions.deviceJoins questions.deviceDue questions.windowsFit questions.windowsApart questions.apart questions.sizesFit questions.granularityFits questions.allPlaced questions.isPlaced questions.insideDevice questions.spacesFit questions.spaceFits questions.sizeIn questions.subAreasApart records.planOf records.recordsEnd records.wearStart records.wearCount records.subAreasStart records.areasStart records.deviceCount records.areaCount records.subAreaCount records.recordsFrom records.recordsUpTo records.isRecord records.deviceAt records.areaAt records.subAreaAt records.granularityAt
 examples = (refl, refl, refl, refl, refl, refl, refl, refl, refl, refl, refl, refl, refl)
+
+-- document 02, 05: "Refused: 20 asked after 8 when a wear record names an unknown or repeated sub-area or endurance 0." More records than a plan
+-- has room for are for 20 too; a cut one, and one before the sub-areas, for 1.
+pub wear-examples :
+    (loadNumber (planAround [] 32 (wear 0 7)) ≡ 0)
+    × (loadNumber (planAround [] 32 (wear 1 5 ++ wear 0 7)) ≡ 0)
+    × (loadNumber (planAround [] 32 (wear 2 5)) ≡ 20)
+    × (loadNumber (planAround [] 32 (wear 0 5 ++ wear 0 6)) ≡ 20)
+    × (loadNumber (planAround [] 32 (wear 1 0)) ≡ 20)
+    × (loadNumber (planAround [] 32 (wears 33 0 1)) ≡ 20)
+    × (loadNumber (planAround [] 32 (wear 0 7 ++ 87 ∷ 82 ∷ 1 ∷ bytes 3 5)) ≡ 1)
+    × (loadNumber (planAround (wear 0 7) 32 []) ≡ 1)
+    × (loadNumber (planAround [] 16 (wear 9 0)) ≡ 8)
+    × (records.planOf (planAround [] 32 (wear 1 5 ++ wear 0 7)) .endurance ≡ 7 ∷ 5 ∷ replicate 30 0)
+unfolding firstNo ask orElse every some sum multiple table numberAt loadNumber questions.wholeRecords questions.planQuestions questions.recordQuestions questions.countsFit questions.devicesJoin questions.deviceJoins questions.deviceDue questions.windowsFit questions.windowsApart questions.apart questions.sizesFit questions.granularityFits questions.allPlaced questions.isPlaced questions.insideDevice questions.spacesFit questions.spaceFits questions.sizeIn questions.subAreasApart records.planOf records.recordsEnd records.wearStart records.wearCount records.subAreasStart records.areasStart records.deviceCount records.areaCount records.subAreaCount records.recordsFrom records.recordsUpTo records.isRecord records.deviceAt records.areaAt records.subAreaAt records.granularityAt records.wearAt records.enduranceBy questions.wearRecordFits
+wear-examples = (refl, refl, refl, refl, refl, refl, refl, refl, refl, refl)

@@ -15,7 +15,7 @@ use Rattle.plan.specs.WellFormed.{WellFormed}
 use Rattle.plan.specs.declared.records.Plan.{Plan}
 use Rattle.close.specs.Close.{halvesOf}
 use Rattle.rules.specs.Admission.{admits, jobNumber, releaseNumber, cancelNumber, infoNumber, memoryInfoNumber, roundNumber}
-use Rattle.rules.specs.History.{Query, status, result, processed, jobInfo, memoryInfo, Call, submit, releases, cancels, asks, round, History, lent}
+use Rattle.rules.specs.History.{Query, status, result, processed, jobInfo, memoryInfo, wearInfo, Call, submit, releases, cancels, asks, round, History, lent}
 use Rattle.rules.specs.Layout.{layoutOf}
 use Rattle.rules.specs.Machine.{Core}
 use Rattle.rules.specs.Memory.{Memory}
@@ -37,6 +37,7 @@ module _ (m : Manager) (e : isSound (m .plan) (m .areas) (m .devices) ≡ false)
   unsound-query (processed a) = rw e
   unsound-query (jobInfo a) = rw e
   unsound-query (memoryInfo a address) = rw e
+  unsound-query (wearInfo a address) = rw e
 
   pub unsound-answer : (k : Call) → managerNumber k m ≡ 9
   unfolding jobNumberOf releaseNumberOf cancelNumberOf roundNumberOf firstNo
@@ -75,6 +76,7 @@ module _ (m : Manager) (r : Reached (m .plan) (coreOf m) (agesOf m)) where
   query-is (processed a) = number-is _
   query-is (jobInfo a) = number-is _
   query-is (memoryInfo a address) = number-is _
+  query-is (wearInfo a address) = number-is _
 
   pub round-is : (given : Memory) → roundNumberOf m given ≡ roundNumber (m .plan) (given .image) (given .store)
   unfolding roundNumberOf

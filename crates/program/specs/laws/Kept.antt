@@ -23,6 +23,7 @@ use Rattle.rules.specs.History.{Call, submit, releases, cancels, asks, round, H
 use Rattle.rules.specs.Machine.{Core}
 use Rattle.rules.specs.laws.PlanLaws.{plan-laws}
 use Rattle.rules.specs.laws.Runs.{history-fits}
+use Rattle.rules.specs.Wear.{wornIn}
 use Rattle.state.specs.Ages.{firstAges, ageIn}
 use Rattle.state.specs.laws.AgesLaws.{age-past}
 use Rattle.state.specs.Fresh.{freshArea, freeDevice}
@@ -102,7 +103,7 @@ first-age (suc (suc (suc (suc (suc (suc (suc (suc a)))))))) = sym (age-past firs
 
 -- the manager of a plan stands at the start
 fresh-stands : (p : Plan) → Stands p (freshManager p firstAges) freshHistory
-unfolding freshManager freshHistory
+unfolding freshManager freshHistory wornIn
 fresh-stands p =
     record {
       plan = refl;
@@ -111,6 +112,8 @@ fresh-stands p =
       core = λ i. record { jobs = λ a. all-same 8 freshArea a i .job; devices = λ d. all-same 4 freeDevice d i };
       ages = fun-ext first-age;
       waits = λ a _. ap (λ x. x .waits) (all-same 8 freshArea a);
+      wear-length = refl;
+      wear = λ i _. all-same 32 0 i;
     }
 
 module _ (l : List ℕ) (e : loadNumber l ≡ 0) where

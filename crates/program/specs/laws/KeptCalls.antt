@@ -75,6 +75,8 @@ module _ (m : Manager) (h : History) (S : Stands (m .plan) m (beside m h)) where
             (λ _. simp upd-same refl)
             (λ f g. simp upd-other (S .waits b g))
             g;
+        wear-length = S .wear-length;
+        wear = S .wear;
       }
 
   -- an accepted cancel
@@ -92,6 +94,8 @@ module _ (m : Manager) (h : History) (S : Stands (m .plan) m (beside m h)) where
             ∙ upd-case (λ w. w ≡ stuck (h .tallies b)) (waitsIn (m .areas)) a b (waitsIn (m .areas) a)
             (λ e. ap (waitsIn (m .areas)) e ∙ S .waits b g)
             (λ _. S .waits b g);
+        wear-length = S .wear-length;
+        wear = S .wear;
       }
 
   -- a device that is locked is one of the manager's
@@ -111,4 +115,6 @@ module _ (m : Manager) (h : History) (S : Stands (m .plan) m (beside m h)) where
         core = device-core d _ (locked-known d a e) ∙ released-core d (coreOf m);
         ages = refl;
         waits = S .waits;
+        wear-length = S .wear-length;
+        wear = S .wear;
       }

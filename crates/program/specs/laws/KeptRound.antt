@@ -1,17 +1,21 @@
 -- An accepted round keeps the manager where the history is.
 use Prim.Native.Nat.{ℕ, _+_, _≤_, min}
 use mathlib.Core.Bool.{Bool, true, false}
-use mathlib.Core.List.{List}
-use mathlib.Core.Path.{_≡_, refl, ap, _∙_}
+use mathlib.Core.List.{List, _++_}
+use mathlib.Core.Path.{_≡_, refl, sym, ap, _∙_}
 use native.Mathlib.Omega.{arith}
 use Rattle.manager.specs.Calls.{coreOf, rankedOf}
 use Rattle.manager.specs.declared.Manager.{Manager}
 use Rattle.memory.specs.declared.DeviceAnswer.{DeviceAnswer}
-use Rattle.close.specs.Close.{mostWaits, stick, counted, closed, areasAfter, devicesAfter, halvesOf}
+use Rattle.close.specs.Close.{mostWaits, stick, counted, closed, areasAfter, devicesAfter, lentTo, wearOf, halvesOf}
 use Rattle.rules.specs.History.{Tally, count, close, History, lent, roundOf}
 use Rattle.rules.specs.Machine.{Wait, own, above, below, locked, none, isPending, waitOf}
 use Rattle.rules.specs.Memory.{Memory}
-use Rattle.rules.specs.Round.{Half, roundHalves}
+use Rattle.rounds.specs.laws.WearTurns.{erases-bare}
+use Rattle.rules.specs.Round.{Half, roundErases, roundHalves}
+use Rattle.rules.specs.Wear.{stuckWear}
+use Rattle.rules.specs.laws.WearLaws.{length-wear, wear-sums}
+use Rattle.segment.specs.declared.Segment.{Segment}
 use Rattle.state.specs.Fresh.{noJob, freeDevice}
 use Rattle.program.specs.laws.Answers.{Reached, halves-are}
 use Rattle.devices.specs.laws.ArrayLaws.{job-past, device-past}
@@ -43,6 +47,10 @@ module _ (m : Manager) (h : History) (S : Stands (m .plan) m (beside m h)) (r : 
   half : Half
   half = roundHalves (m .plan) (agesOf m) answers (lent given (beside m h))
 
+  -- the erases that it does, by the manager's arrays
+  erased : List Segment
+  erased = roundErases (m .plan) answers (lentTo (m .areas) (m .devices) given)
+
   -- nothing past the arrays
   idle-past : (a : ℕ) → 8 ≤ a → half .core .jobs a ≡ noJob
   unfolding half
@@ -58,9 +66,15 @@ module _ (m : Manager) (h : History) (S : Stands (m .plan) m (beside m h)) (r : 
 
   -- with the history's halves
   half-kept : Stands (m .plan)
-      (record { plan = m .plan; areas = areasAfter (rankedOf m) (m .areas) (half .core); devices = devicesAfter (half .core); ages = m .ages })
+      (record {
+        plan = m .plan;
+        areas = areasAfter (rankedOf m) (m .areas) (half .core);
+        devices = devicesAfter (half .core);
+        ages = m .ages;
+        wear = wearOf (m .plan) (m .areas) (m .devices) answers given (m .wear);
+      })
       (roundOf (m .plan) answers given (beside m h))
-  unfolding roundOf half
+  unfolding roundOf half wearOf erased
   half-kept =
       record {
         plan = refl;
@@ -75,11 +89,22 @@ module _ (m : Manager) (h : History) (S : Stands (m .plan) m (beside m h)) (r : 
             waits-after (rankedOf m) (m .areas) (half .core) a l
             ∙ ap (closed before still wait) (S .waits a l)
             ∙ stuck-close before still wait (h .tallies a);
+        wear-length = length-wear (m .plan) erased (m .wear) ∙ S .wear-length;
+        wear = λ i l.
+            wear-sums (m .plan) (h .erases) (m .wear) (S .wear-length) (S .wear) erased i l
+            ∙ ap (λ es. stuckWear (m .plan) (es ++ h .erases) i) (sym (erases-bare (m .plan) answers (lent given (beside m h)) (m .plan .«device_count»)));
       }
 
   -- with the manager's, which are the same
   pub round-kept : let e = halvesOf (m .plan) (m .areas) (m .devices) (m .ages) answers given .core in
-      Stands (m .plan) (record { plan = m .plan; areas = areasAfter (rankedOf m) (m .areas) e; devices = devicesAfter e; ages = m .ages })
+      Stands (m .plan)
+      (record {
+        plan = m .plan;
+        areas = areasAfter (rankedOf m) (m .areas) e;
+        devices = devicesAfter e;
+        ages = m .ages;
+        wear = wearOf (m .plan) (m .areas) (m .devices) answers given (m .wear);
+      })
       (roundOf (m .plan) answers given (beside m h))
   unfolding half
   round-kept = rw (ap (λ x. x .0) (halves-are m answers given h)) half-kept

@@ -2,6 +2,7 @@
 use Prim.Native.Nat.{ℕ}
 use mathlib.Core.List.{List}
 use mathlib.Core.Path.{_≡_}
+use native.Mathlib.Omega.{arith}
 use borrow.Author.Tests.{ne-eqb}
 use Rattle.machine.specs.laws.SoundLaws.{zero-unsound}
 use Rattle.manager.specs.Load.{freshManager, zeroManager, loadedManager}
@@ -33,6 +34,7 @@ holds-here m h g =
       answers = λ k. answer-is m r k h;
       memory = λ k lent. memory-is m r k lent h;
       reported = reported m h (g .stands) r;
+      unstuck = λ i l below. omega (arith, g .stands .wear i l);
     }
 
 -- every accepted load and every list of calls

@@ -5,7 +5,7 @@ use mathlib.Core.List.{List}
 use mathlib.Core.Path.{_≡_, refl, sym, ap, _∙_}
 use native.Mathlib.Omega.{arith}
 use borrow.Author.Tests.{eq-eqb, ne-eqb}
-use lib.ListN.{length}
+use lib.ListN.{length, getD}
 use Rattle.arith.specs.Bounded.{some}
 use Rattle.devices.specs.Arrays.{deviceIn, stateIn}
 use Rattle.devices.specs.laws.DeviceLaws.{none-held}
@@ -15,6 +15,8 @@ use Rattle.plan.specs.Questions.{subAreaOf, sizeOf}
 use Rattle.plan.specs.declared.records.Plan.{Plan}
 use Rattle.rules.specs.Layout.{layoutOf}
 use Rattle.rules.specs.Machine.{due, need, runsFor, keptFor, holds}
+use Rattle.rules.specs.Wear.{noWearInfo, wearInfoAt, wearInfoOf}
+use Rattle.wear.specs.Wear.{chargeOf}
 use Rattle.rules.specs.Queries.{noRequest, requestOn, noMemoryInfo, memoryInfoIn, memoryInfoAt, memoryInfoOf}
 use Rattle.segment.specs.Mapping.{mapped}
 use Rattle.segment.specs.Segments.{segmentAt}
@@ -72,3 +74,15 @@ module _ (p : Plan) (a : ℕ) (address : LogicalAddress) (f : Found) (e : f ≡ 
     memory-place =
         let place = mapped-place p a (address .0) i y m (sym e ∙ here) .0 in
         (place .known, (omega (arith, place .is-at), place .inside))
+
+-- wear info, with what the mapping gave
+module _ (p : Plan) (sums : ℕ → ℕ) (a : ℕ) (address : LogicalAddress) (f : Found) (e : f ≡ mapped p a (record { 0 = address .0 })) where
+  pub wear-outside : f ≡ Outside → noWearInfo ≡ wearInfoOf p sums a address
+  unfolding wearInfoOf
+  wear-outside none = ap (wearInfoAt p sums) (sym none ∙ e)
+
+  pub wear-inside : (i y : ℕ) (m : MemAddress) → f ≡ At i y m → (charge : ℕ) →
+      charge ≡ chargeOf (sums i) (getD (p .endurance) i 0) (subAreaOf (p .«sub_areas») i .«sector_count») →
+      record { sum = sums i; charge = charge } ≡ wearInfoOf p sums a address
+  unfolding wearInfoOf
+  wear-inside i y m here charge is = ap (λ c. record { sum = sums i; charge = c }) is ∙ ap (wearInfoAt p sums) (sym here ∙ e)

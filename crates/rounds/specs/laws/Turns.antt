@@ -1,5 +1,5 @@
 -- The first half of a round, as the code goes: a device at a time, with the due segments that were found before it.
-use Prim.Native.Nat.{ℕ, _≤_, _<_}
+use Prim.Native.Nat.{ℕ, _+_, _≤_, _<_}
 use mathlib.Core.Bool.{true}
 use mathlib.Core.List.{List}
 use mathlib.Core.Path.{_≡_, refl, sym, ap, subst, _∙_}
@@ -19,8 +19,11 @@ use Rattle.plan.specs.declared.records.Plan.{Plan}
 use Rattle.plan.specs.declared.records.SubAreaRecord.{SubAreaRecord}
 use Rattle.rules.specs.Admission.{imageFits, storeReaches}
 use Rattle.rules.specs.Machine.{isPending, doing}
-use Rattle.rules.specs.Memory.{Memory}
-use Rattle.rules.specs.Round.{takeIn}
+use Rattle.rules.specs.Memory.{Memory, verdictOf}
+use Rattle.rules.specs.Layout.{layoutOf}
+use Rattle.rules.specs.Round.{verdictOn, takeIn, erasesOn}
+use Rattle.rules.specs.Wear.{wearAfter}
+use Rattle.segment.specs.laws.Found.{sub-area-room}
 use Rattle.segment.specs.Segments.{noSegment, segmentAt}
 use Rattle.segment.specs.declared.Segment.{Segment}
 use Rattle.state.specs.Fresh.{freshArea}
@@ -30,9 +33,12 @@ use Rattle.state.specs.declared.DeviceState.{DeviceState}
 use Rattle.state.specs.declared.DeviceState.the-variants.{Free, Runs, LockedFor}
 use Rattle.state.specs.declared.Job.{Job}
 use Rattle.requests.specs.Requests.{Fits, request-fits, job-taken, due-taken, state-taken, memory-taken, found-fits}
-use Rattle.answers.specs.laws.Answers.{Lent, turnArea, turnState, turnDue, turnMemory}
+use Rattle.answers.specs.declared.Worn.{Worn}
+use Rattle.answers.specs.laws.Answers.{Lent, turnArea, turnState, turnDue, turnWorn, turnMemory}
+use Rattle.wear.specs.Wear.{mostWear, wornTo}
 use Rattle.rounds.specs.laws.AnswerLaws.{core-kept, free-core, free-memory, locked-core, locked-memory, runs-core, runs-memory}
 use Rattle.rounds.specs.laws.Halves.{both}
+use Rattle.rounds.specs.laws.WearTurns.{wear-kept, worn-turn}
 use Rattle.close.specs.Close.{lentTo}
 
 -- one due segment more
@@ -74,11 +80,12 @@ module _ (p : Plan) (few : p .«area_count» ≤ 8) (d : ℕ) (y : DeviceAnswer)
     runs-due : due a ≡ segmentAt p a (jobIn areas a .task) (jobIn areas a .processed)
     runs-due = found a runs-known runs-pending
 
-  turn-lent : (x : DeviceState) → stateIn devices d ≡ x → (k : ℕ) → k ≡ runnerOf x → Lent (areaOf (p .areas) k) (entry k) (due k) image store x
-  turn-lent Free e k f = tt
-  turn-lent (LockedFor a) e k f = tt
-  turn-lent (Runs a polls) e k f =
-      rw (f, lt-ltb a 8 (runs-known a polls e)) (found-fits p d a polls (jobIn areas a) y m (due a) (runs-due a polls e) (holds a polls e))
+  turn-lent : p .«sub_area_count» ≤ 32 → (x : DeviceState) → stateIn devices d ≡ x → (k : ℕ) → k ≡ runnerOf x → Lent (areaOf (p .areas) k) (entry k) (due k) image store x
+  turn-lent room Free e k f = tt
+  turn-lent room (LockedFor a) e k f = tt
+  turn-lent room (Runs a polls) e k f =
+      let fit = found-fits p d a polls (jobIn areas a) y m (due a) (runs-due a polls e) (holds a polls e) in
+      rw (f, lt-ltb a 8 (runs-known a polls e)) (fit .0, fit .1, fit .2, rw (runs-due a polls e) (sub-area-room p room a _ _))
 
   turn-memory : (x : DeviceState) → stateIn devices d ≡ x → (k : ℕ) → k ≡ runnerOf x →
       turnMemory (areaOf (p .areas) k) (deviceOf (p .devices) d) (entry k) (due k) y m x ≡ takeIn p d y (lentTo areas devices m) .memory
@@ -87,6 +94,19 @@ module _ (p : Plan) (few : p .«area_count» ≤ 8) (d : ℕ) (y : DeviceAnswer)
   turn-memory (Runs a polls) e k f =
       rw (f, lt-ltb a 8 (runs-known a polls e))
       (memory-taken p d a polls (jobIn areas a) y m (due a) (runs-due a polls e) ∙ runs-memory p d y areas devices m a polls e)
+
+  -- the sums with what the turn erased are those of the rules
+  turn-wear : (x : DeviceState) → stateIn devices d ≡ x → (k : ℕ) → k ≡ runnerOf x → (es : List Segment) (start w : List ℕ) → w ≡ wearAfter p es start →
+      (o : Worn) → o ≡ turnWorn (p .«sub_areas») (areaOf (p .areas) k) (entry k) (due k) y m x → getD w (o .«sub_area») 0 ≤ mostWear →
+      set w (o .«sub_area») (wornTo (getD w (o .«sub_area») 0) (o .sectors)) ≡ wearAfter p (erasesOn p x (verdictOn p x y (jobIn areas) m) (jobIn areas) es) start
+  unfolding layoutOf
+  turn-wear Free e k f es start w g o = λ h. rw h (λ b. wear-kept w 0 b ∙ g)
+  turn-wear (LockedFor a) e k f es start w g o = λ h. rw h (λ b. wear-kept w 0 b ∙ g)
+  turn-wear (Runs a polls) e k f es start w g o =
+      rw (f, lt-ltb a 8 (runs-known a polls e), ← (runs-due a polls e))
+      (λ h. rw h (λ b.
+      worn-turn p (jobIn areas a .task .kind) (due a) es start w g b
+      (verdictOf y (jobIn areas a .task .kind) (due a .start .0) (areaOf (p .areas) a .window .start + jobIn areas a .processed) (due a .length) m)))
 
   module _ (areas-are : length areas ≡ 8) (devices-are : length devices ≡ 4) (dues-are : length dues ≡ 8) (there : d < 4) where
     kept : {x : DeviceState} → x ≡ stateIn devices d → doing x (deviceIn devices d) ≡ deviceIn devices d
@@ -130,8 +150,14 @@ module _ (p : Plan) (few : p .«area_count» ≤ 8) (d : ℕ) (y : DeviceAnswer)
   -- the same for the arrays that the code has copied from the plan
   module _ (l : List SubAreaRecord) (records : List AreaRecord) (holders : List DeviceRecord) (l-is : l ≡ p .«sub_areas») (records-are : records ≡ p .areas)
       (holders-are : holders ≡ p .devices) (k : ℕ) (k-is : k ≡ runnerOf (stateIn devices d)) where
-    pub lent-turn : Lent (areaOf records k) (entry k) (due k) image store (stateIn devices d)
-    lent-turn = rw records-are (turn-lent (stateIn devices d) refl k k-is)
+    pub lent-turn : p .«sub_area_count» ≤ 32 → Lent (areaOf records k) (entry k) (due k) image store (stateIn devices d)
+    lent-turn room = rw records-are (turn-lent room (stateIn devices d) refl k k-is)
+
+    pub wear-turn : (es : List Segment) (start w : List ℕ) → w ≡ wearAfter p es start → (o : Worn) →
+        o ≡ turnWorn l (areaOf records k) (entry k) (due k) y m (stateIn devices d) → getD w (o .«sub_area») 0 ≤ mostWear →
+        set w (o .«sub_area») (wornTo (getD w (o .«sub_area») 0) (o .sectors))
+        ≡ wearAfter p (erasesOn p (stateIn devices d) (verdictOn p (stateIn devices d) y (jobIn areas) m) (jobIn areas) es) start
+    wear-turn es start w g o = rw (l-is, records-are) (turn-wear (stateIn devices d) refl k k-is es start w g o)
 
     -- what the turn leaves: arrays and memory are those of the rules, and the due segments go along
     pub whole-turn : length areas ≡ 8 → length devices ≡ 4 → length dues ≡ 8 → d < 4 → (r : Area) (s : Segment) (z : Device) (i t : List ℕ) →

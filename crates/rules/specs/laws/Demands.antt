@@ -17,6 +17,7 @@ use Rattle.rules.specs.laws.Demand3.{demand3}
 use Rattle.rules.specs.laws.Devices.{devices-kept}
 use Rattle.rules.specs.laws.DoneKept.{done-fits}
 use Rattle.rules.specs.laws.FirstCome.{first-come}
+use Rattle.rules.specs.laws.EraseLaws.{erases-whole}
 use Rattle.rules.specs.laws.Ordered.{round-ordered}
 use Rattle.rules.specs.laws.PlanLaws.{plan-laws}
 use Rattle.rules.specs.laws.RoundBytes.{run-bytes}
@@ -43,6 +44,7 @@ demands l e cs =
       first-come = order;
       by-acceptance = by-acceptance p (plan-laws p w) cs;
       suspended = suspended-waits p (plan-laws p w) cs;
+      erases = erases-whole p w cs freshHistory (λ ds. fits ds .reachable) (λ ds a _. done ds a .cut) (unfold freshHistory in tt);
       demand3 = demand3 p h (fits cs);
     }
 

@@ -110,5 +110,5 @@ pub info-runs :
     × (asked planQ unlike 1 ≡ (0, 1, 3, 12, info (task Read 274 20) 3 12 (counts 5 4 7 8) (request 1 50 6 2)))
     -- Area 1's first sub-area has the 16 bytes from 256 on, so its second begins at 272 and has 24; every number of the second is another.
     × (memoryAsked planQ 1 272 ≡ (0, memory 272 36 23 (granularity 12 24) (granularity 4 8) (granularity 2 6) 1))
-unfolding Bounded.every Bounded.some Bounded.sum FirstNo.firstNo Multiples.multiple Tables.table Parts.upd Number.numberAt Records.deviceAt Records.areaAt Records.granularityAt Records.subAreaAt Records.isRecord Records.recordsUpTo Records.recordsFrom Records.deviceCount Records.areasStart Records.areaCount Records.subAreasStart Records.subAreaCount Records.recordsEnd Records.planOf Questions.apart Questions.wholeRecords Questions.countsFit Questions.deviceDue Questions.deviceJoins Questions.devicesJoin Questions.windowsApart Questions.windowsFit Questions.granularityFits Questions.sizesFit Questions.insideDevice Questions.isPlaced Questions.allPlaced Questions.sizeIn Questions.spaceFits Questions.spacesFit Questions.subAreasApart Questions.recordQuestions Questions.planQuestions Questions.loadNumber Questions.loadedPlan Mapping.find Mapping.mapped Segments.burstOrUnit Segments.segmentAt Segments.cut Segments.segmentsFrom Segments.spansAfter Segments.spans Ranks.agesAfter Ranks.rankAbove Layout.layoutOf Machine.jobFailed Machine.jobFinished Machine.jobDiffers Machine.takeAnswer Machine.ready Machine.best Machine.startDevice Machine.secondHalf Machine.waitBehind Machine.cancel Machine.begin Machine.release Admission.isInside Admission.isAligned Admission.fitsWindow Admission.onOneDevice Admission.rangeDevice Admission.jobQuestions Admission.releaseQuestions Admission.cancelQuestions Admission.infoQuestions Admission.memoryInfoQuestions Admission.imageFits Admission.storeReaches Admission.jobNumber Admission.releaseNumber Admission.cancelNumber Admission.infoNumber Admission.memoryInfoNumber Admission.roundNumber Round.takeIn Round.takeAll Round.roundHalves History.freshHistory History.roundOf History.submitted History.step History.run Queries.jobInfoOf Queries.memoryInfoOf
+unfolding Bounded.every Bounded.some Bounded.sum FirstNo.firstNo FirstNo.ask FirstNo.orElse Multiples.multiple Tables.table Parts.upd Number.numberAt Records.deviceAt Records.areaAt Records.granularityAt Records.subAreaAt Records.isRecord Records.recordsUpTo Records.recordsFrom Records.deviceCount Records.areasStart Records.areaCount Records.subAreasStart Records.subAreaCount Records.recordsEnd Records.wearStart Records.wearCount Records.planOf Questions.apart Questions.wholeRecords Questions.countsFit Questions.deviceDue Questions.deviceJoins Questions.devicesJoin Questions.windowsApart Questions.windowsFit Questions.granularityFits Questions.sizesFit Questions.insideDevice Questions.isPlaced Questions.allPlaced Questions.sizeIn Questions.spaceFits Questions.spacesFit Questions.subAreasApart Questions.recordQuestions Questions.planQuestions Questions.loadNumber Questions.loadedPlan Mapping.find Mapping.mapped Segments.burstOrUnit Segments.segmentAt Segments.cut Segments.segmentsFrom Segments.spansAfter Segments.spans Ranks.agesAfter Ranks.rankAbove Layout.layoutOf Machine.jobFailed Machine.jobFinished Machine.jobDiffers Machine.takeAnswer Machine.ready Machine.best Machine.startDevice Machine.secondHalf Machine.waitBehind Machine.cancel Machine.begin Machine.release Admission.isInside Admission.isAligned Admission.fitsWindow Admission.onOneDevice Admission.rangeDevice Admission.jobQuestions Admission.releaseQuestions Admission.cancelQuestions Admission.infoQuestions Admission.memoryInfoQuestions Admission.imageFits Admission.storeReaches Admission.jobNumber Admission.releaseNumber Admission.cancelNumber Admission.infoNumber Admission.memoryInfoNumber Admission.roundNumber Round.takeIn Round.takeAll Round.roundHalves History.freshHistory History.roundOf History.submitted History.step History.run Queries.jobInfoOf Queries.memoryInfoOf
 info-runs = (refl, refl, refl)

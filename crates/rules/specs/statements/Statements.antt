@@ -32,6 +32,7 @@ use Rattle.rules.specs.Machine.{Core, doing, isPending, isCancelling, ne
 use Rattle.rules.specs.Memory.{Memory}
 use Rattle.rules.specs.Queries.{noRequest, jobInfoOf}
 use Rattle.rules.specs.Round.{answerFor, takeAll}
+use Rattle.rules.specs.statements.Erases.{AllWhole}
 use Rattle.rules.specs.statements.DoneRounds.{doneRounds, BytesDone}
 use Rattle.rules.specs.statements.Jobs.{agreesDue, JobAccepted, JobAnswered, JobWaited, JobCancelled, OfOthers}
 use Rattle.rules.specs.statements.Moments.{Moment, Run}
@@ -227,6 +228,7 @@ pub record Demands (p : Plan) (r : Run) (cs : List Call) : Type 0 where
   pub first-come : FirstCome p (r cs)
   pub by-acceptance : ByAcceptance p (r cs .now) cs
   pub suspended : SuspendedNotRunning p (r cs .now)
+  pub erases : AllWhole p (r cs .now .erases)
   pub demand3 : (a : ℕ) → Demand3 p (r cs .now) a
 
 -- "This holds after every list of jobs, locks, releases, cancels, queries and rounds from an accepted load, refused ones

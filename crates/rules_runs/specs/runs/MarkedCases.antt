@@ -63,5 +63,5 @@ pub marked-cases :
     × (answer 0 Read 0 16 ≡ 0)
     × (answer 0 Read 0 17 ≡ 14)
     × (answer 2 Read 0 1 ≡ 10)
-unfolding Bounded.every Bounded.some Bounded.sum FirstNo.firstNo Multiples.multiple Tables.table Number.numberAt Records.deviceAt Records.areaAt Records.granularityAt Records.subAreaAt Records.isRecord Records.recordsUpTo Records.recordsFrom Records.deviceCount Records.areasStart Records.areaCount Records.subAreasStart Records.subAreaCount Records.recordsEnd Records.recordLayout Records.planOf Records.emptyPlan Questions.apart Questions.wholeRecords Questions.countsFit Questions.deviceDue Questions.deviceJoins Questions.devicesJoin Questions.windowsApart Questions.windowsFit Questions.granularityFits Questions.sizesFit Questions.insideDevice Questions.isPlaced Questions.allPlaced Questions.sizeIn Questions.spaceFits Questions.spacesFit Questions.subAreasApart Questions.recordQuestions Questions.planQuestions Questions.loadNumber Questions.loadedPlan Mapping.find Mapping.mapped Segments.burstOrUnit Segments.segmentAt Segments.cut Segments.segmentsFrom Segments.spansAfter Segments.spans Segments.ownSum Segments.belowSum Segments.ownBound Segments.belowBound Admission.isInside Admission.isAligned Admission.fitsWindow Admission.onOneDevice Admission.rangeDevice Admission.jobQuestions Admission.releaseQuestions Admission.cancelQuestions Admission.infoQuestions Admission.memoryInfoQuestions Admission.imageFits Admission.storeReaches Admission.jobNumber Admission.releaseNumber Admission.cancelNumber Admission.infoNumber Admission.memoryInfoNumber Admission.roundNumber Admission.admits History.freshHistory History.roundOf History.submitted History.step History.run
+unfolding Bounded.every Bounded.some Bounded.sum FirstNo.firstNo FirstNo.ask FirstNo.orElse Multiples.multiple Tables.table Number.numberAt Records.deviceAt Records.areaAt Records.granularityAt Records.subAreaAt Records.isRecord Records.recordsUpTo Records.recordsFrom Records.deviceCount Records.areasStart Records.areaCount Records.subAreasStart Records.subAreaCount Records.recordsEnd Records.wearStart Records.wearCount Records.recordLayout Records.planOf Records.emptyPlan Questions.apart Questions.wholeRecords Questions.countsFit Questions.deviceDue Questions.deviceJoins Questions.devicesJoin Questions.windowsApart Questions.windowsFit Questions.granularityFits Questions.sizesFit Questions.insideDevice Questions.isPlaced Questions.allPlaced Questions.sizeIn Questions.spaceFits Questions.spacesFit Questions.subAreasApart Questions.recordQuestions Questions.planQuestions Questions.loadNumber Questions.loadedPlan Mapping.find Mapping.mapped Segments.burstOrUnit Segments.segmentAt Segments.cut Segments.segmentsFrom Segments.spansAfter Segments.spans Segments.ownSum Segments.belowSum Segments.ownBound Segments.belowBound Admission.isInside Admission.isAligned Admission.fitsWindow Admission.onOneDevice Admission.rangeDevice Admission.jobQuestions Admission.releaseQuestions Admission.cancelQuestions Admission.infoQuestions Admission.memoryInfoQuestions Admission.imageFits Admission.storeReaches Admission.jobNumber Admission.releaseNumber Admission.cancelNumber Admission.infoNumber Admission.memoryInfoNumber Admission.roundNumber Admission.admits History.freshHistory History.roundOf History.submitted History.step History.run
 marked-cases = (refl, refl, refl, refl, refl, refl, refl, refl, refl, refl, refl, refl, refl, refl, refl, refl, refl, refl)

@@ -71,5 +71,5 @@ pub printed-session :
     (final .printed ≡ entries)
     × (final .history .tallies 0 ≡ record { rounds = 6; own = 4; above = 1; below = 0; locked = 0; byRound = true })
     × (final .history .tallies 1 ≡ record { rounds = 3; own = 1; above = 0; below = 1; locked = 0; byRound = true })
-unfolding Bounded.every Bounded.some Bounded.sum FirstNo.firstNo Listed.listed Multiples.multiple Tables.table Parts.part Parts.put Parts.upd Number.numberAt Records.deviceAt Records.areaAt Records.granularityAt Records.subAreaAt Records.isRecord Records.recordsUpTo Records.recordsFrom Records.deviceCount Records.areasStart Records.areaCount Records.subAreasStart Records.subAreaCount Records.recordsEnd Records.recordLayout Records.planOf Records.emptyPlan Questions.apart Questions.wholeRecords Questions.countsFit Questions.deviceDue Questions.deviceJoins Questions.devicesJoin Questions.windowsApart Questions.windowsFit Questions.granularityFits Questions.sizesFit Questions.insideDevice Questions.isPlaced Questions.allPlaced Questions.sizeIn Questions.spaceFits Questions.spacesFit Questions.subAreasApart Questions.recordQuestions Questions.planQuestions Questions.loadNumber Questions.loadedPlan Mapping.find Mapping.mapped Segments.burstOrUnit Segments.segmentAt Segments.cut Segments.segmentsFrom Segments.spansAfter Segments.spans Segments.ownSum Segments.belowSum Segments.ownBound Segments.belowBound Ranks.agesAfter Ranks.rankAbove Layout.layoutOf Machine.jobFailed Machine.jobFinished Machine.jobDiffers Machine.takeAnswer Machine.firstHalf Machine.ready Machine.best Machine.startDevice Machine.secondHalf Machine.waitBehind Machine.cancel Machine.begin Machine.release Admission.isInside Admission.isAligned Admission.fitsWindow Admission.onOneDevice Admission.rangeDevice Admission.jobQuestions Admission.releaseQuestions Admission.cancelQuestions Admission.infoQuestions Admission.memoryInfoQuestions Admission.imageFits Admission.storeReaches Admission.jobNumber Admission.releaseNumber Admission.cancelNumber Admission.infoNumber Admission.memoryInfoNumber Admission.roundNumber Round.takeIn Round.takeAll Round.roundHalves History.freshHistory History.roundOf History.submitted History.step History.run Queries.jobInfoOf Queries.memoryInfoOf Session.shownTo Session.entryOf Session.playLine Session.play lines entries bench final
+unfolding Bounded.every Bounded.some Bounded.sum FirstNo.firstNo FirstNo.ask FirstNo.orElse Listed.listed Multiples.multiple Tables.table Parts.part Parts.put Parts.upd Number.numberAt Records.deviceAt Records.areaAt Records.granularityAt Records.subAreaAt Records.isRecord Records.recordsUpTo Records.recordsFrom Records.deviceCount Records.areasStart Records.areaCount Records.subAreasStart Records.subAreaCount Records.recordsEnd Records.wearStart Records.wearCount Records.recordLayout Records.planOf Records.emptyPlan Questions.apart Questions.wholeRecords Questions.countsFit Questions.deviceDue Questions.deviceJoins Questions.devicesJoin Questions.windowsApart Questions.windowsFit Questions.granularityFits Questions.sizesFit Questions.insideDevice Questions.isPlaced Questions.allPlaced Questions.sizeIn Questions.spaceFits Questions.spacesFit Questions.subAreasApart Questions.recordQuestions Questions.planQuestions Questions.loadNumber Questions.loadedPlan Mapping.find Mapping.mapped Segments.burstOrUnit Segments.segmentAt Segments.cut Segments.segmentsFrom Segments.spansAfter Segments.spans Segments.ownSum Segments.belowSum Segments.ownBound Segments.belowBound Ranks.agesAfter Ranks.rankAbove Layout.layoutOf Machine.jobFailed Machine.jobFinished Machine.jobDiffers Machine.takeAnswer Machine.firstHalf Machine.ready Machine.best Machine.startDevice Machine.secondHalf Machine.waitBehind Machine.cancel Machine.begin Machine.release Admission.isInside Admission.isAligned Admission.fitsWindow Admission.onOneDevice Admission.rangeDevice Admission.jobQuestions Admission.releaseQuestions Admission.cancelQuestions Admission.infoQuestions Admission.memoryInfoQuestions Admission.imageFits Admission.storeReaches Admission.jobNumber Admission.releaseNumber Admission.cancelNumber Admission.infoNumber Admission.memoryInfoNumber Admission.roundNumber Round.takeIn Round.takeAll Round.roundHalves History.freshHistory History.roundOf History.submitted History.step History.run Queries.jobInfoOf Queries.memoryInfoOf Session.shownTo Session.entryOf Session.playLine Session.play lines entries bench final
 printed-session = (refl, refl, refl)

@@ -70,9 +70,9 @@ behindErases =
     job Erase 0 0 4 ∷ rounds 1 ++ job Read 1 256 4 ∷ rounds 1 ++ erase ∷ rounds 6 ++ job Read 3 768 4 ∷ rounds 1 ++ answers Pending Done ∷ rounds 1
     ++ job Erase 0 4 4 ∷ rounds 1 ++ job Read 1 260 4 ∷ rounds 1 ++ answers Pending Done ∷ rounds 3 ++ ends
 
--- a sector of area 2 on device d at physical address x
-abbrev sectorOn : ℕ → ℕ → ℕ → Segment
-sectorOn d x retries = record { device = d; start = record { 0 = x }; length = 4; retries = retries }
+-- a sector of area 2 in sub-area i on device d at physical address x
+abbrev sectorOn : ℕ → ℕ → ℕ → ℕ → Segment
+sectorOn i d x retries = record { «sub_area» = i; device = d; start = record { 0 = x }; length = 4; retries = retries }
 
 abbrev loaded : ℕ → Plan
 loaded second = Records.planOf (planW second)
@@ -89,14 +89,14 @@ record Evaluated (second : ℕ) (can : Bool) (calls : List Call) (rounds above b
   chip1 : Layout.layoutOf (loaded second) .suspends 1 ≡ can
   limit0 : Layout.layoutOf (loaded second) .limit 0 ≡ 2
   limit1 : Layout.layoutOf (loaded second) .limit 1 ≡ 3
-  segments : segmentsOf (loaded second) (after second calls) 2 ≡ sectorOn 1 24 1 ∷ sectorOn 0 8 0 ∷ sectorOn 0 12 0 ∷ []
+  segments : segmentsOf (loaded second) (after second calls) 2 ≡ sectorOn 4 1 24 1 ∷ sectorOn 5 0 8 0 ∷ sectorOn 5 0 12 0 ∷ []
   spans : Segments.spans (segmentsOf (loaded second) (after second calls) 2) ≡ 1 ∷ 0 ∷ []
   tally : after second calls .tallies 2 ≡ record { rounds = rounds; own = 10; above = above; below = below; locked = 0; byRound = true }
   own-most : ownMost (loaded second) (after second calls) 2 ≡ 10
   below-most : belowMost (loaded second) (after second calls) 2 ≡ below
 
 runs : Evaluated 86 false behindReads 14 0 3 × Evaluated 83 true behindErases 18 1 6
-unfolding Bounded.every Bounded.some Bounded.sum FirstNo.firstNo Multiples.multiple Tables.table Parts.upd Number.numberAt Records.deviceAt Records.areaAt Records.granularityAt Records.subAreaAt Records.isRecord Records.recordsUpTo Records.recordsFrom Records.deviceCount Records.areasStart Records.areaCount Records.subAreasStart Records.subAreaCount Records.planOf Questions.loadNumber Questions.wholeRecords Questions.planQuestions Questions.recordQuestions Questions.countsFit Questions.devicesJoin Questions.deviceJoins Questions.deviceDue Questions.windowsFit Questions.windowsApart Questions.apart Questions.sizesFit Questions.granularityFits Questions.allPlaced Questions.isPlaced Questions.insideDevice Questions.spacesFit Questions.spaceFits Questions.subAreasApart Records.recordsEnd Questions.sizeIn Mapping.find Mapping.mapped Segments.burstOrUnit Segments.segmentAt Segments.cut Segments.segmentsFrom Segments.spansAfter Segments.spans Segments.ownSum Segments.belowSum Segments.ownBound Segments.belowBound Ranks.agesAfter Ranks.rankAbove Layout.layoutOf Machine.jobFailed Machine.jobFinished Machine.takeAnswer Machine.ready Machine.best Machine.startDevice Machine.secondHalf Machine.waitBehind Machine.begin Admission.isInside Admission.isAligned Admission.fitsWindow Admission.jobQuestions Admission.imageFits Admission.storeReaches Admission.jobNumber Admission.roundNumber Round.takeIn Round.takeAll Round.roundHalves History.freshHistory History.roundOf History.submitted History.step History.run
+unfolding Bounded.every Bounded.some Bounded.sum FirstNo.firstNo FirstNo.ask FirstNo.orElse Multiples.multiple Tables.table Parts.upd Number.numberAt Records.deviceAt Records.areaAt Records.granularityAt Records.subAreaAt Records.isRecord Records.recordsUpTo Records.recordsFrom Records.deviceCount Records.areasStart Records.areaCount Records.subAreasStart Records.subAreaCount Records.planOf Questions.loadNumber Questions.wholeRecords Questions.planQuestions Questions.recordQuestions Questions.countsFit Questions.devicesJoin Questions.deviceJoins Questions.deviceDue Questions.windowsFit Questions.windowsApart Questions.apart Questions.sizesFit Questions.granularityFits Questions.allPlaced Questions.isPlaced Questions.insideDevice Questions.spacesFit Questions.spaceFits Questions.subAreasApart Records.recordsEnd Records.wearStart Records.wearCount Questions.sizeIn Mapping.find Mapping.mapped Segments.burstOrUnit Segments.segmentAt Segments.cut Segments.segmentsFrom Segments.spansAfter Segments.spans Segments.ownSum Segments.belowSum Segments.ownBound Segments.belowBound Ranks.agesAfter Ranks.rankAbove Layout.layoutOf Machine.jobFailed Machine.jobFinished Machine.takeAnswer Machine.ready Machine.best Machine.startDevice Machine.secondHalf Machine.waitBehind Machine.begin Admission.isInside Admission.isAligned Admission.fitsWindow Admission.jobQuestions Admission.imageFits Admission.storeReaches Admission.jobNumber Admission.roundNumber Round.takeIn Round.takeAll Round.roundHalves History.freshHistory History.roundOf History.submitted History.step History.run
 runs = (
   record { accepted = refl; devices = refl; chip0 = refl; chip1 = refl; limit0 = refl; limit1 = refl; segments = refl; spans = refl; tally = refl; own-most = refl; below-most = refl },
   record { accepted = refl; devices = refl; chip0 = refl; chip1 = refl; limit0 = refl; limit1 = refl; segments = refl; spans = refl; tally = refl; own-most = refl; below-most = refl },

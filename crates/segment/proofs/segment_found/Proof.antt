@@ -23,6 +23,9 @@ cast-minus c = search needs
 minus-requires : tie.Need-minus-requires
 minus-requires c κs = search needs
 
+cast-segment-in : tie.Need-cast-segment-in
+cast-segment-in c = let inside = rw (c .before .before .before .found .given .1) at (c .before .before .before .before .before .pre) in omega (arith, inside .0)
+
 segment-in-requires : tie.Need-segment-in-requires
 segment-in-requires c κs = let inside = rw (c .before .before .before .found .given .1) at (c .before .before .before .before .before .pre) in omega (arith, inside)
 
@@ -41,6 +44,7 @@ segment-found-spec =
     enum-known-found
     cast-minus
     minus-requires
+    cast-segment-in
     segment-in-requires
     returns
     returns-2)

@@ -25,7 +25,7 @@ array-copy-out-segment-found : tie.Need-array-copy-out-segment-found
 array-copy-out-segment-found c = let few = index-within (c .before .before .before .args .t1) (c .before .before .before .args .area) (c .before .before .before .args .count) (c .before .before .before .args .start .0) (c .before .before .before .args .task .address .0 + c .before .before .before .args .processed) (c .before .locate .result) (c .before .locate .ensures) (c .before .before .before .pre) in omega (arith, few, c .index-of .ensures)
 
 segment-found-requires : tie.Need-segment-found-requires
-segment-found-requires c κs = rw (c .before .index-of .ensures) (offset-inside (c .before .before .before .before .args .t1) (c .before .before .before .before .args .area) (c .before .before .before .before .args .count) (c .before .before .before .before .args .start .0) (c .before .before .before .before .args .task .address .0 + c .before .before .before .before .args .processed) (c .before .before .locate .result) (c .before .before .locate .ensures))
+segment-found-requires c κs = rw (c .before .index-of .ensures) (offset-inside (c .before .before .before .before .args .t1) (c .before .before .before .before .args .area) (c .before .before .before .before .args .count) (c .before .before .before .before .args .start .0) (c .before .before .before .before .args .task .address .0 + c .before .before .before .before .args .processed) (c .before .before .locate .result) (c .before .before .locate .ensures) (c .before .before .before .before .pre))
 
 returns : tie.Need-returns
 returns c = simp (c .segment-found .ensures, c .before .before .index-of .ensures) (if-found (c .before .before .before .before .before .args .task .kind) (c .before .before .before .before .before .args .t1) (c .before .before .before .before .before .args .task .length - c .before .before .before .before .before .args .processed) (c .before .before .before .locate .result) ∙ ap (λ f. segmentOf (c .before .before .before .before .before .args .task .kind) (c .before .before .before .before .before .args .t1) (c .before .before .before .before .before .args .task .length - c .before .before .before .before .before .args .processed) f) (c .before .before .before .locate .ensures))

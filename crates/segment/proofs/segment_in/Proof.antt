@@ -28,7 +28,7 @@ returns : tie.Need-returns
 returns c =
     let a = c .before .before .before .before .args in
     rw (c .retries-of .ensures, c .before .segment-length .ensures, c .before .before .least .ensures, c .before .before .before .size .ensures .0)
-    (segment-there (a .kind) (a .sub-area) (a .offset) (a .left) (a .start) (c .before .before .before .before .pre .1))
+    (segment-there (a .kind) (a .number) (a .sub-area) (a .offset) (a .left) (a .start) (c .before .before .before .before .pre .1))
 
 pub segment-in-spec : {M : Type 1} → statement M
 segment-in-spec =

@@ -32,6 +32,7 @@ OnUnit p a t x = (i y : ℕ) → Place p a (t .address .0 + x) i y → unitOf (t
 pub record Good (p : Plan) (a : ℕ) (t : Task) (s : Segment) (left : ℕ) : Type 0 where
   pub sub-area : ℕ
   pub known : sub-area < p .«sub_area_count»
+  pub sub-area-is : s .«sub_area» ≡ sub-area
   pub of-area : subAreaOf (p .«sub_areas») sub-area .area ≡ a
   pub device-is : s .device ≡ subAreaOf (p .«sub_areas») sub-area .device
   pub after-start : subAreaOf (p .«sub_areas») sub-area .start ≤ s .start .0
@@ -46,7 +47,7 @@ pub record Good (p : Plan) (a : ℕ) (t : Task) (s : Segment) (left : ℕ) : Typ
 
 -- the segment at a byte of the job is the one at its place
 pub segment-is : (p : Plan) (a : ℕ) (t : Task) (x : ℕ) {i y : ℕ} → Place p a (t .address .0 + x) i y →
-    segmentAt p a t x ≡ segmentIn (t .kind) (subAreaOf (p .«sub_areas») i) y (t .length - x)
+    segmentAt p a t x ≡ segmentIn (t .kind) i (subAreaOf (p .«sub_areas») i) y (t .length - x)
 unfolding segmentAt
 segment-is p a t x h = rw (place-mapped p a h)
 
@@ -88,16 +89,17 @@ module _ (p : Plan) (w : WellFormed p) (a : ℕ) (t : Task) (f : Admitted p a t)
 
     -- so the segment here is whole units of them
     whole-here : WholeUnits (unitOf (t .kind) (subAreaOf (p .«sub_areas») i)) (min (t .length - x) (sizeOf (subAreaOf (p .«sub_areas») i) - y))
-        (segmentIn (t .kind) (subAreaOf (p .«sub_areas») i) y (t .length - x) .length)
+        (segmentIn (t .kind) i (subAreaOf (p .«sub_areas») i) y (t .length - x) .length)
     whole-here = length-whole p w i (g .known) (t .kind) _ _ (omega arith) left-whole
 
     -- and good
-    good-here : Good p a t (segmentIn (t .kind) (subAreaOf (p .«sub_areas») i) y (t .length - x)) (t .length - x)
+    good-here : Good p a t (segmentIn (t .kind) i (subAreaOf (p .«sub_areas») i) y (t .length - x)) (t .length - x)
     good-here =
         let whole = whole-here in
         record {
           sub-area = i;
           known = g .known;
+          sub-area-is = refl;
           of-area = g .of-area;
           device-is = refl;
           after-start = omega arith;
@@ -117,7 +119,7 @@ module _ (p : Plan) (w : WellFormed p) (a : ℕ) (t : Task) (f : Admitted p a t)
       let (i, y, g) = job-place f x h in
       let whole = whole-here x h i y g (on i y g) in
       let k' = rw (segment-is p a t x g, ← add-assoc) at k in
-      by-ltb (y + segmentIn (t .kind) (subAreaOf (p .«sub_areas») i) y (t .length - x) .length) (sizeOf (subAreaOf (p .«sub_areas») i))
+      by-ltb (y + segmentIn (t .kind) i (subAreaOf (p .«sub_areas») i) y (t .length - x) .length) (sizeOf (subAreaOf (p .«sub_areas») i))
       (λ _ l.
       let e = one-place p a (place-inside p a _ g l) k' in
       rw (← e .0, ← e .1) (dvd-add _ (on i y g) (whole .of-unit)))

@@ -23,7 +23,7 @@ sample =
     }
 
 abbrev pub lengthAt : JobType → ℕ → ℕ → ℕ
-lengthAt k y r = segmentIn k sample y r .length
+lengthAt k y r = segmentIn k 0 sample y r .length
 
 pub borders :
     -- offset 0 is at physical 16, which is no multiple of 32; offset 16 is at physical 32, which is one

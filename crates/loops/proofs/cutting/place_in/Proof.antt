@@ -19,7 +19,7 @@ returns : tie.Need-returns
 returns c =
     let args = c .before .before .before .args in
     let size = c .before .before .size .ensures .0 in
-    (rw (lt-ltb (args .byte) (sizeOf (args .sub-area)) (omega arith)), (omega arith, refl))
+    (rw (lt-ltb (args .byte) (sizeOf (args .sub-area)) (omega arith)), (omega arith, omega arith, refl))
 
 returns-2 : tie.Need-returns-2
 returns-2 c =

@@ -103,10 +103,10 @@ loop-again c =
     let task = c .before .before .before .before .before .before .before .before .before .before .before .before .before .before .before .before .before .before .before .before .task-of .ensures in
     let begun = c .before .before .before .before .before .before .before .before .before .before .before .before .before .job-change .ensures in
     let ended = c .before .before .before .before .cancel-change .ensures in
-    let next = begun .1 .0 ∙ ap (λ t. afterJob (managerIn (here .grown)) (turn (here .i)) t) task in (
+    let next = begun .1 .0 (here .grown .wear) ∙ ap (λ t. afterJob (managerIn (here .grown)) (turn (here .i)) t) task in (
       omega (arith, c .before .before .before .before .before .before .before .before .before .before .before .before .before .before .before .before .before .before .loop-test .taken),
-      rw (repeated-more, ← (inv .1), ← next) (ended .1 .0),
-      rw (total-more, ← (inv .1), ← (inv .2), ← next) (ap₂ (λ x y. here .sum + (x + y)) (c .before .before .before .before .before .before .before .before .before .before .before .before .number .ensures ∙ begun .0 ∙ ap (λ t. jobNumberOf (managerIn (here .grown)) (turn (here .i)) t) task) (c .before .before .before .number2 .ensures ∙ ended .0)),
+      rw (repeated-more, ← (inv .1), ← next) (ended .1 .0 (here .grown .wear)),
+      rw (total-more, ← (inv .1), ← (inv .2), ← next) (ap₂ (λ x y. here .sum + (x + y)) (c .before .before .before .before .before .before .before .before .before .before .before .before .number .ensures ∙ begun .0 (here .grown .wear) ∙ ap (λ t. jobNumberOf (managerIn (here .grown)) (turn (here .i)) t) task) (c .before .before .before .number2 .ensures ∙ ended .0 (here .grown .wear))),
       omega (arith, inv .3, c .before .before .before .before .before .before .before .before .before .before .before .before .number .ok, c .before .before .before .number2 .ok),
       inv .4,
     )

@@ -59,9 +59,10 @@ loop-less c = search needs
 
 loop-again : tie.Need-loop-again Inv-loop μ-loop
 loop-again c =
-    let inv = c .before .before .before .before .before .before .before .before .before .before .loop .inv in
+    let here = c .before .before .before .before .before .before .before .before .before .before .loop in
+    let inv = here .inv in
     let called = c .before .before .before .before .cancel-change .ensures in
-    (omega arith, rw (repeated-more, ← (inv .1)) (called .1 .0), rw (total-more, ← (inv .1), ← (inv .2)) (ap (_+_ _) (c .before .before .before .number .ensures ∙ called .0)), omega arith)
+    (omega arith, rw (repeated-more, ← (inv .1)) (called .1 .0 (here .manager .wear)), rw (total-more, ← (inv .1), ← (inv .2)) (ap (_+_ _) (c .before .before .before .number .ensures ∙ called .0 (here .manager .wear))), omega arith)
 
 returns : tie.Need-returns Inv-loop μ-loop
 returns c = c .before .loop .inv .2 ∙ ap₂ cancelTotal (c .before .before .before .load .ensures .1) (omega arith)

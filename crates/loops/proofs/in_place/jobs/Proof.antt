@@ -68,7 +68,7 @@ loop-again c =
     let inv = here .inv in
     let task = c .before .before .before .before .before .before .before .before .before .before .before .task-of .ensures in
     let called = c .before .before .before .before .job-change .ensures in
-    (omega arith, rw (repeated-more, ← (inv .1)) (called .1 .0 ∙ ap (λ t. afterJob (here .manager) (turn (here .i)) t) task), rw (total-more, ← (inv .1), ← (inv .2)) (ap (_+_ _) (c .before .before .before .number .ensures ∙ called .0 ∙ ap (λ t. jobNumberOf (here .manager) (turn (here .i)) t) task)), omega arith)
+    (omega arith, rw (repeated-more, ← (inv .1)) (called .1 .0 (here .manager .wear) ∙ ap (λ t. afterJob (here .manager) (turn (here .i)) t) task), rw (total-more, ← (inv .1), ← (inv .2)) (ap (_+_ _) (c .before .before .before .number .ensures ∙ called .0 (here .manager .wear) ∙ ap (λ t. jobNumberOf (here .manager) (turn (here .i)) t) task)), omega arith)
 
 returns : tie.Need-returns Inv-loop μ-loop
 returns c = c .before .loop .inv .2 ∙ ap₂ (jobTotal _ _) (c .before .before .before .before .load .ensures .1) (omega arith)

@@ -13,7 +13,7 @@ use Rattle.manager.proofs.in_place.round_change.Reads as round-change-reads
 use Rattle.memory.proofs.Admission.number.Reads as number-reads
 use Rattle.loops.proofs.answer_of.Reads as answer-of-reads
 use Rattle.loops.proofs.busy.Reads as busy-reads
-use Rattle.loops.proofs.processed_sum.Reads as processed-sum-reads
+use Rattle.loops.proofs.left_sum.Reads as left-sum-reads
 
 abbrev Inv-loop : tie.InvT-loop
 Inv-loop plan kind length answer times image₀ store₀ manager₀ answers sum₀ i₀ image store manager sum i = (i ≤ times) × (lists.length image ≡ lists.length image₀) × (lists.length store ≡ lists.length store₀) × (benchOf manager (memoryOf image store) ≡ benchAfter manager₀ (memoryOf image₀ store₀) answers i) × (sum ≡ roundTotal answers (benchOf manager₀ (memoryOf image₀ store₀)) i) × (sum ≤ 255 * i)
@@ -51,19 +51,19 @@ loop-less c = search needs
 
 loop-again : tie.Need-loop-again Inv-loop μ-loop
 loop-again c =
-    let here = c .before .before .before .before .before .before .before .before .before .before .before .before .before .before .loop in
+    let here = c .before .before .before .before .before .before .before .before .before .before .before .before .before .before .before .before .loop in
     let inv = here .inv in
-    let done = c .before .before .before .before .before .before .before .round-change .ensures in (
+    let done = c .before .before .before .before .before .before .before .before .round-change .ensures in (
       omega arith,
       omega (arith, inv .1),
       omega (arith, inv .2),
       rw (rounds-more, ← (inv .3)) (bench-is _ _ _ _ _ (done .1 .0) (done .1 .1 .0) (done .1 .1 .1)),
-      rw (total-more-rounds, ← (inv .3), ← (inv .4)) (ap (_+_ (here .sum)) (c .before .before .number .ensures ∙ done .0)),
+      rw (total-more-rounds, ← (inv .3), ← (inv .4)) (ap (_+_ (here .sum)) (c .before .before .before .number .ensures ∙ done .0)),
       omega arith,
     )
 
-processed-sum-requires : tie.Need-processed-sum-requires Inv-loop μ-loop
-processed-sum-requires c κs = search needs
+left-sum-requires : tie.Need-left-sum-requires Inv-loop μ-loop
+left-sum-requires c κs = search needs
 
 add-result : tie.Need-add-result Inv-loop μ-loop
 add-result c = search needs
@@ -79,7 +79,7 @@ returns c =
     let here = c .before .before .loop in
     let inv = here .inv in
     let all : c .before .before .before .before .before .before .before .before .args .times ≡ here .i = omega arith in
-    rw (← (c .before .before .before .before .busy .ensures), ← (c .before .before .before .answer-of .ensures), all) (rw (← (inv .3), ← (inv .4)) (ap (_+_ (here .sum)) (c .processed-sum .ensures .0)), (ap (λ b. b .lent .image) (inv .3), ap (λ b. b .lent .store) (inv .3)))
+    rw (← (c .before .before .before .before .busy .ensures), ← (c .before .before .before .answer-of .ensures), all) (rw (← (inv .3), ← (inv .4)) (ap (_+_ (here .sum)) (c .left-sum .ensures .0)), (ap (λ b. b .lent .image) (inv .3), ap (λ b. b .lent .store) (inv .3)))
 
 pub rounds-spec : {M : Type 1} → statement M
 rounds-spec =
@@ -97,7 +97,7 @@ rounds-spec =
     add-i
     loop-less
     loop-again
-    processed-sum-requires
+    left-sum-requires
     add-result
     same-length
     same-length-2

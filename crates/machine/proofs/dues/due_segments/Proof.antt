@@ -55,7 +55,7 @@ array-copy-out-segment-found : tie.Need-array-copy-out-segment-found Inv-loop μ
 array-copy-out-segment-found c = let few = due-index (c .before .before .before .before .before .before .before .before .before .before .args .t1) (c .before .before .before .before .before .before .before .before .before .before .args .count) (areaOf (c .before .before .before .before .before .before .before .before .before .before .args .t3) (c .before .before .before .before .before .before .before .before .loop .a) .start .0) (c .before .before .before .before .before .before .before .before .loop .a) (jobIn (c .before .before .before .before .before .before .before .before .before .before .args .t4) (c .before .before .before .before .before .before .before .before .loop .a)) (c .before .locate-due .result) (c .before .locate-due .ensures) (c .before .before .before .before .before .before .before .before .before .before .pre) in omega (arith, few, c .index-of .ensures)
 
 segment-found-requires : tie.Need-segment-found-requires Inv-loop μ-loop
-segment-found-requires c κs = rw (c .before .index-of .ensures) (due-inside (c .before .before .before .before .before .before .before .before .before .before .before .args .t1) (c .before .before .before .before .before .before .before .before .before .before .before .args .count) (areaOf (c .before .before .before .before .before .before .before .before .before .before .before .args .t3) (c .before .before .before .before .before .before .before .before .before .loop .a) .start .0) (c .before .before .before .before .before .before .before .before .before .loop .a) (jobIn (c .before .before .before .before .before .before .before .before .before .before .before .args .t4) (c .before .before .before .before .before .before .before .before .before .loop .a)) (c .before .before .locate-due .result) (c .before .before .locate-due .ensures))
+segment-found-requires c κs = rw (c .before .index-of .ensures) (due-inside (c .before .before .before .before .before .before .before .before .before .before .before .args .t1) (c .before .before .before .before .before .before .before .before .before .before .before .args .count) (areaOf (c .before .before .before .before .before .before .before .before .before .before .before .args .t3) (c .before .before .before .before .before .before .before .before .before .loop .a) .start .0) (c .before .before .before .before .before .before .before .before .before .loop .a) (jobIn (c .before .before .before .before .before .before .before .before .before .before .before .args .t4) (c .before .before .before .before .before .before .before .before .before .loop .a)) (c .before .before .locate-due .result) (c .before .before .locate-due .ensures) (c .before .before .before .before .before .before .before .before .before .before .before .pre))
 
 mul-dues : tie.Need-mul-dues Inv-loop μ-loop
 mul-dues c = search needs

@@ -34,7 +34,7 @@ stop-requires c κs =
     let k = c .before .before .before .before .ask .ensures in
     let x = c .before .before .before .cancel-admission in
     let is = x .ensures ∙ ap (λ z. firstNo 9 (z .sound ∷ isKnown (a .self .plan) (a .area) ∷ skip 6 (isPending (z .area .job) ∷ []))) (k .0) in
-    (cancel-asked (a .self .plan) (a .self .areas) (a .self .devices) (a .self .ages) (a .area) (x .result) is (c .before .enum-told2 .given .1), k .1)
+    (cancel-asked (a .self .plan) (a .self .areas) (a .self .devices) (a .self .ages) (a .self .wear) (a .area) (x .result) is (c .before .enum-told2 .given .1), k .1)
 
 with-requires : tie.Need-with-requires
 with-requires c κs =
@@ -47,7 +47,7 @@ returns c =
     let k = c .before .before .before .ask .ensures in
     let x = c .before .before .cancel-admission in
     let is = x .ensures ∙ ap (λ z. firstNo 9 (z .sound ∷ isKnown (a .self .plan) (a .area) ∷ skip 6 (isPending (z .area .job) ∷ []))) (k .0) in
-    cancel-none (a .self .plan) (a .self .areas) (a .self .devices) (a .self .ages) (a .area) (x .result) is _ (c .enum-told .given .1)
+    cancel-none (a .self .plan) (a .self .areas) (a .self .devices) (a .self .ages) (a .self .wear) (a .area) (x .result) is _ (c .enum-told .given .1)
 
 returns-2 : tie.Need-returns-2
 returns-2 c =
@@ -57,7 +57,7 @@ returns-2 c =
     let is = x .ensures ∙ ap (λ z. firstNo 9 (z .sound ∷ isKnown (a .self .plan) (a .area) ∷ skip 6 (isPending (z .area .job) ∷ []))) (k .0) in
     let r = c .before .stop in
     let f = r .ensures ∙ ap (λ z. stoppedChange (a .self .plan) z (a .self .devices) (a .self .ages)) (k .0) in
-    let j = cancel-stopped (a .self .plan) (a .self .areas) (a .self .devices) (a .self .ages) (a .area) (x .result) is (c .before .before .before .enum-told2 .given .1) (r .result) f in
+    let j = cancel-stopped (a .self .plan) (a .self .areas) (a .self .devices) (a .self .ages) (a .self .wear) (a .area) (x .result) is (c .before .before .before .enum-told2 .given .1) (r .result) f in
     rw (c .with .ensures) (j .0, j .1)
 
 pub cancel-spec : {M : Type 1} → statement M

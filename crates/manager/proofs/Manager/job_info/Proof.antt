@@ -12,8 +12,8 @@ info-of-requires c κs = search needs
 returns : tie.Need-returns
 returns c =
     let m = c .before .before .before .args .self in
-    let is = c .info-of .ensures .1 (m .ages) in
-    (c .info-of .ensures .0 (m .ages), (is, info-type m _ _ is))
+    let is = c .info-of .ensures .1 (m .ages) (m .wear) in
+    (c .info-of .ensures .0 (m .ages) (m .wear), (is, info-type m _ _ is))
 
 pub job-info-spec : {M : Type 1} → statement M
 job-info-spec = tie.close (tie.spec info-of-requires returns)

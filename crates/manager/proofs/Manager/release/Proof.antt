@@ -13,7 +13,7 @@ with-requires : tie.Need-with-requires
 with-requires c κs = search needs
 
 returns : tie.Need-returns
-returns c = rw (c .with .ensures) (c .before .release-change .ensures .0, c .before .release-change .ensures .1 .0)
+returns c = rw (c .with .ensures) (c .before .release-change .ensures .0 _, c .before .release-change .ensures .1 .0 _)
 
 pub release-spec : {M : Type 1} → statement M
 release-spec = tie.close (tie.spec release-change-requires with-requires returns)

@@ -40,7 +40,7 @@ begin-requires c κs =
     let k = c .before .before .before .before .before .ask .ensures in
     let x = c .before .before .before .before .idle-admission in
     let is = x .ensures ∙ ap (λ z. firstNo 9 (z .sound ∷ isKnown (a .self .plan) (a .area) ∷ not (isPending (z .area .job)) ∷ [])) (k .0) in
-    (job-asked (a .self .plan) (a .self .areas) (a .self .devices) (a .self .ages) (a .area) (a .task) (x .result) is (c .before .before .enum-told2 .given .1), k .1)
+    (job-asked (a .self .plan) (a .self .areas) (a .self .devices) (a .self .ages) (a .self .wear) (a .area) (a .task) (x .result) is (c .before .before .enum-told2 .given .1), k .1)
 
 with-requires : tie.Need-with-requires
 with-requires c κs =
@@ -53,7 +53,7 @@ returns c =
     let k = c .before .before .before .ask .ensures in
     let x = c .before .before .idle-admission in
     let is = x .ensures ∙ ap (λ z. firstNo 9 (z .sound ∷ isKnown (a .self .plan) (a .area) ∷ not (isPending (z .area .job)) ∷ [])) (k .0) in
-    job-none (a .self .plan) (a .self .areas) (a .self .devices) (a .self .ages) (a .area) (a .task) (x .result) is _ (c .enum-told .given .1)
+    job-none (a .self .plan) (a .self .areas) (a .self .devices) (a .self .ages) (a .self .wear) (a .area) (a .task) (x .result) is _ (c .enum-told .given .1)
 
 returns-2 : tie.Need-returns-2
 returns-2 c =
@@ -64,7 +64,7 @@ returns-2 c =
     let r = c .before .begin in
     let n = r .ensures .0 ∙ ap (λ z. firstNo 12 (rangeQuestions (a .self .plan) (z .number) (a .task))) (k .0) in
     let f = r .ensures .1 ∙ ap (λ z. begunChange (r .result .answer) (a .self .plan) z (getD (a .self .devices) 0 freeDevice) (a .self .ages) (a .task)) (k .0) in
-    let j = job-begun (a .self .plan) (a .self .areas) (a .self .devices) (a .self .ages) (a .area) (a .task) (x .result) is (c .before .before .before .before .enum-told2 .given .1) (r .result) (getD (a .self .devices) 0 freeDevice) refl n f in
+    let j = job-begun (a .self .plan) (a .self .areas) (a .self .devices) (a .self .ages) (a .self .wear) (a .area) (a .task) (x .result) is (c .before .before .before .before .enum-told2 .given .1) (r .result) (getD (a .self .devices) 0 freeDevice) refl n f in
     rw (c .with .ensures) (j .0, j .1)
 
 pub submit-spec : {M : Type 1} → statement M

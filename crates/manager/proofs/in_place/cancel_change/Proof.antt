@@ -1,4 +1,5 @@
-use mathlib.Core.List.{_∷_, []}
+use Prim.Native.Nat.{ℕ}
+use mathlib.Core.List.{List, _∷_, []}
 use mathlib.Core.Path.{ap, _∙_}
 use native.Mathlib.Omega.{arith}
 use Rattle.arith.specs.FirstNo.{firstNo}
@@ -37,7 +38,7 @@ stop-requires c κs =
     let k = c .before .before .before .ask .ensures in
     let x = c .before .before .cancel-admission in
     let is = x .ensures ∙ ap (λ z. firstNo 9 (z .sound ∷ isKnown (a .plan) (a .area) ∷ skip 6 (isPending (z .area .job) ∷ []))) (k .0) in
-    (cancel-asked (a .plan) (a .areas) (a .devices) (a .ages) (a .area) (x .result) is (c .enum-told2 .given .1), k .1)
+    (cancel-asked (a .plan) (a .areas) (a .devices) (a .ages) [] (a .area) (x .result) is (c .enum-told2 .given .1), k .1)
 
 returns : tie.Need-returns
 returns c =
@@ -45,8 +46,8 @@ returns c =
     let k = c .before .before .before .before .ask .ensures in
     let x = c .before .before .before .cancel-admission in
     let is = x .ensures ∙ ap (λ z. firstNo 9 (z .sound ∷ isKnown (a .plan) (a .area) ∷ skip 6 (isPending (z .area .job) ∷ []))) (k .0) in
-    let j = cancel-none (a .plan) (a .areas) (a .devices) (a .ages) (a .area) (x .result) is _ (c .before .enum-told .given .1) in
-    rw (c .none .ensures) (j .0, (kept (a .plan) (a .areas) (a .devices) (a .ages) (x .result) ∙ j .1, (omega arith, omega arith)))
+    let j : (wear : List ℕ) → _ = λ wear. cancel-none (a .plan) (a .areas) (a .devices) (a .ages) wear (a .area) (x .result) is _ (c .before .enum-told .given .1) in
+    rw (c .none .ensures) ((λ wear. j wear .0), ((λ wear. kept (a .plan) (a .areas) (a .devices) (a .ages) wear (x .result) ∙ j wear .1), (omega arith, omega arith)))
 
 returns-2 : tie.Need-returns-2
 returns-2 c =
@@ -56,8 +57,8 @@ returns-2 c =
     let is = x .ensures ∙ ap (λ z. firstNo 9 (z .sound ∷ isKnown (a .plan) (a .area) ∷ skip 6 (isPending (z .area .job) ∷ []))) (k .0) in
     let r = c .stop in
     let f = r .ensures ∙ ap (λ z. stoppedChange (a .plan) z (a .devices) (a .ages)) (k .0) in
-    let j = cancel-stopped (a .plan) (a .areas) (a .devices) (a .ages) (a .area) (x .result) is (c .before .enum-told2 .given .1) (r .result) f in
-    (j .0, (j .1, (omega (arith, ap (λ z. z .«area_number») (r .ensures), k .1), omega (arith, ap (λ z. z .«device_number») (r .ensures)))))
+    let j : (wear : List ℕ) → _ = λ wear. cancel-stopped (a .plan) (a .areas) (a .devices) (a .ages) wear (a .area) (x .result) is (c .before .enum-told2 .given .1) (r .result) f in
+    ((λ wear. j wear .0), ((λ wear. j wear .1), (omega (arith, ap (λ z. z .«area_number») (r .ensures), k .1), omega (arith, ap (λ z. z .«device_number») (r .ensures)))))
 
 pub cancel-change-spec : {M : Type 1} → statement M
 cancel-change-spec =

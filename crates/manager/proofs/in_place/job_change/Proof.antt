@@ -1,5 +1,6 @@
+use Prim.Native.Nat.{ℕ}
 use mathlib.Core.Bool.{not}
-use mathlib.Core.List.{_∷_, []}
+use mathlib.Core.List.{List, _∷_, []}
 use mathlib.Core.Path.{refl, ap, _∙_}
 use lib.ListN.{getD}
 use native.Mathlib.Omega.{arith}
@@ -43,7 +44,7 @@ begin-requires c κs =
     let k = c .before .before .before .before .ask .ensures in
     let x = c .before .before .before .idle-admission in
     let is = x .ensures ∙ ap (λ z. firstNo 9 (z .sound ∷ isKnown (a .plan) (a .area) ∷ not (isPending (z .area .job)) ∷ [])) (k .0) in
-    (job-asked (a .plan) (a .areas) (a .t3) (a .ages) (a .area) (a .task) (x .result) is (c .before .enum-told2 .given .1), k .1)
+    (job-asked (a .plan) (a .areas) (a .t3) (a .ages) [] (a .area) (a .task) (x .result) is (c .before .enum-told2 .given .1), k .1)
 
 returns : tie.Need-returns
 returns c =
@@ -51,8 +52,8 @@ returns c =
     let k = c .before .before .before .before .ask .ensures in
     let x = c .before .before .before .idle-admission in
     let is = x .ensures ∙ ap (λ z. firstNo 9 (z .sound ∷ isKnown (a .plan) (a .area) ∷ not (isPending (z .area .job)) ∷ [])) (k .0) in
-    let j = job-none (a .plan) (a .areas) (a .t3) (a .ages) (a .area) (a .task) (x .result) is _ (c .before .enum-told .given .1) in
-    rw (c .none .ensures) (j .0, (kept (a .plan) (a .areas) (a .t3) (a .ages) (x .result) ∙ j .1, (omega arith, omega arith)))
+    let j : (wear : List ℕ) → _ = λ wear. job-none (a .plan) (a .areas) (a .t3) (a .ages) wear (a .area) (a .task) (x .result) is _ (c .before .enum-told .given .1) in
+    rw (c .none .ensures) ((λ wear. j wear .0), ((λ wear. kept (a .plan) (a .areas) (a .t3) (a .ages) wear (x .result) ∙ j wear .1), (omega arith, omega arith)))
 
 returns-2 : tie.Need-returns-2
 returns-2 c =
@@ -63,8 +64,8 @@ returns-2 c =
     let r = c .begin in
     let n = r .ensures .0 ∙ ap (λ z. firstNo 12 (rangeQuestions (a .plan) (z .number) (a .task))) (k .0) in
     let f = r .ensures .1 ∙ ap (λ z. begunChange (r .result .answer) (a .plan) z (getD (a .t3) 0 freeDevice) (a .ages) (a .task)) (k .0) in
-    let j = job-begun (a .plan) (a .areas) (a .t3) (a .ages) (a .area) (a .task) (x .result) is (c .before .before .enum-told2 .given .1) (r .result) (getD (a .t3) 0 freeDevice) refl n f in
-    (j .0, (j .1, (omega (arith, ap (λ z. z .«area_number») (r .ensures .1), k .1), omega (arith, ap (λ z. z .«device_number») (r .ensures .1)))))
+    let j : (wear : List ℕ) → _ = λ wear. job-begun (a .plan) (a .areas) (a .t3) (a .ages) wear (a .area) (a .task) (x .result) is (c .before .before .enum-told2 .given .1) (r .result) (getD (a .t3) 0 freeDevice) refl n f in
+    ((λ wear. j wear .0), ((λ wear. j wear .1), (omega (arith, ap (λ z. z .«area_number») (r .ensures .1), k .1), omega (arith, ap (λ z. z .«device_number») (r .ensures .1)))))
 
 pub job-change-spec : {M : Type 1} → statement M
 job-change-spec =

@@ -1,4 +1,6 @@
+use Prim.Native.Nat.{ℕ}
 use mathlib.Core.Path.{_≡_, sym, ap, _∙_}
+use mathlib.Core.List.{List, []}
 use lib.ListN.{length}
 use native.Mathlib.Omega.{arith}
 use Rattle.machine.specs.laws.SoundCases.{sound-few}
@@ -35,7 +37,7 @@ enum-told-2 c = search needs
 range-device-requires : tie.Need-range-device-requires
 range-device-requires c κs =
     let a = c .before .before .before .before .args in
-    let m = managerOf (a .plan) (a .t2) (a .t3) (a .ages) in
+    let m = managerOf (a .plan) (a .t2) (a .t3) (a .ages) [] in
     let number = release-number m (a .area) _ (c .before .before .before .is-sound .ensures) _ (a .address) (a .length) (c .before .before .release-admission .ensures) in
     let accepted = sym number ∙ ap admissionNumber (c .enum-told2 .given .1) in
     release-few m (a .area) (a .address) (a .length) accepted
@@ -49,7 +51,7 @@ mul-old c = search needs
 array-copy-out-old : tie.Need-array-copy-out-old
 array-copy-out-old c =
     let a = c .before .before .before .before .before .args in
-    let m = managerOf (a .plan) (a .t2) (a .t3) (a .ages) in
+    let m = managerOf (a .plan) (a .t2) (a .t3) (a .ages) [] in
     let number = release-number m (a .area) _ (c .before .before .before .before .is-sound .ensures) _ (a .address) (a .length) (c .before .before .before .release-admission .ensures) in
     let accepted = sym number ∙ ap admissionNumber (c .before .enum-told2 .given .1) in
     let long : length (a .t3) ≡ 4 = c .before .before .before .before .before .good .1 .1 .0 .1 .0 .1 in
@@ -61,18 +63,27 @@ array-copy-out-t28 c = search needs
 returns : tie.Need-returns
 returns c =
     let a = c .before .before .before .before .before .args in
-    let m = managerOf (a .plan) (a .t2) (a .t3) (a .ages) in
-    let number = release-number m (a .area) _ (c .before .before .before .before .is-sound .ensures) _ (a .address) (a .length) (c .before .before .before .release-admission .ensures) in
-    rw (c .none .ensures) (number, (kept (a .plan) (a .t2) (a .t3) (a .ages) (c .before .before .before .release-admission .result) ∙ release-refused m (a .area) (a .address) (a .length) (refused-some _ _ (c .before .enum-told .given .1) _ number), (omega arith, omega arith)))
+    let number : (wear : List ℕ) → _ = λ wear. release-number (managerOf (a .plan) (a .t2) (a .t3) (a .ages) wear) (a .area) _ (c .before .before .before .before .is-sound .ensures) _ (a .address) (a .length) (c .before .before .before .release-admission .ensures) in
+    rw (c .none .ensures) (
+      number,
+      (
+        (λ wear. kept (a .plan) (a .t2) (a .t3) (a .ages) wear (c .before .before .before .release-admission .result) ∙ release-refused (managerOf (a .plan) (a .t2) (a .t3) (a .ages) wear) (a .area) (a .address) (a .length) (refused-some _ _ (c .before .enum-told .given .1) _ (number wear))),
+        (omega arith, omega arith),
+      ),
+    )
 
 returns-2 : tie.Need-returns-2
 returns-2 c =
     let a = c .before .before .before .before .before .before .before .args in
-    let m = managerOf (a .plan) (a .t2) (a .t3) (a .ages) in
-    let number = release-number m (a .area) _ (c .before .before .before .before .before .before .is-sound .ensures) _ (a .address) (a .length) (c .before .before .before .before .before .release-admission .ensures) in
-    let accepted = sym number ∙ ap admissionNumber (c .before .before .before .enum-told2 .given .1) in
-    let long : length (a .t3) ≡ 4 = c .before .before .before .before .before .before .before .good .1 .1 .0 .1 .0 .1 in
-    (number, (release-freed (a .plan) (a .t2) (a .t3) (a .ages) (a .area) (a .address) (a .length) (c .before .before .range-device .result) (c .before .before .before .before .before .release-admission .result) (c .before .before .range-device .ensures) accepted, (omega arith, omega (arith, c .before .before .range-device .ensures, release-known m (a .area) (a .address) (a .length) 4 long accepted))))
+    let number : (wear : List ℕ) → _ = λ wear. release-number (managerOf (a .plan) (a .t2) (a .t3) (a .ages) wear) (a .area) _ (c .before .before .before .before .before .before .is-sound .ensures) _ (a .address) (a .length) (c .before .before .before .before .before .release-admission .ensures) in
+    let accepted : (wear : List ℕ) → _ = λ wear. sym (number wear) ∙ ap admissionNumber (c .before .before .before .enum-told2 .given .1) in
+    let long : length (a .t3) ≡ 4 = c .before .before .before .before .before .before .before .good .1 .1 .0 .1 .0 .1 in (
+      number,
+      (
+        (λ wear. release-freed (a .plan) (a .t2) (a .t3) (a .ages) wear (a .area) (a .address) (a .length) (c .before .before .range-device .result) (c .before .before .before .before .before .release-admission .result) (c .before .before .range-device .ensures) (accepted wear)),
+        (omega arith, omega (arith, c .before .before .range-device .ensures, release-known (managerOf (a .plan) (a .t2) (a .t3) (a .ages) []) (a .area) (a .address) (a .length) 4 long (accepted []))),
+      ),
+    )
 
 pub release-change-spec : {M : Type 1} → statement M
 release-change-spec =

@@ -25,7 +25,7 @@ run-round-requires : tie.Need-run-round-requires
 unfolding roundNumberOf
 run-round-requires c κs =
     let a = c .before .before .before .before .before .before .before .before .before .before .args in
-    let m = managerOf (a .plan) (a .areas) (a .devices) (a .ages) in
+    let m = managerOf (a .plan) (a .areas) (a .devices) (a .ages) (a .wear) in
     let lent = memoryOf (a .image .now) (a .store .now) in
     let x = c .before .before .before .before .before .round-admission .ensures in
     let asked = round-asked m (a .answers) lent (sym (x .0) ∙ ap admissionNumber (c .before .before .before .enum-told2 .given .1)) in
@@ -41,7 +41,7 @@ returns : tie.Need-returns
 unfolding roundNumberOf
 returns c =
     let a = c .before .before .before .before .before .before .before .args in
-    let m = managerOf (a .plan) (a .areas) (a .devices) (a .ages) in
+    let m = managerOf (a .plan) (a .areas) (a .devices) (a .ages) (a .wear) in
     let lent = memoryOf (a .image .now) (a .store .now) in
     let x = c .before .before .round-admission .ensures in
     let no = refused-some _ _ (c .enum-told .given .1) _ (x .0) in
@@ -57,14 +57,14 @@ same-length-4 c = search needs
 returns-2 : tie.Need-returns-2
 unfolding roundNumberOf
 returns-2 c =
-    let a = c .before .before .before .before .before .before .before .before .before .before .before .before .before .before .before .before .before .args in
-    let m = managerOf (a .plan) (a .areas) (a .devices) (a .ages) in
+    let a = c .before .before .before .before .before .before .before .before .before .before .before .before .before .before .before .before .before .before .args in
+    let m = managerOf (a .plan) (a .areas) (a .devices) (a .ages) (a .wear) in
     let lent = memoryOf (a .image .now) (a .store .now) in
-    let x = c .before .before .before .before .before .before .before .before .before .before .before .before .round-admission .ensures in
-    let yes = sym (x .0) ∙ ap admissionNumber (c .before .before .before .before .before .before .before .before .before .before .enum-told2 .given .1) in
-    let r = c .before .before .before .before .before .before .run-round in
+    let x = c .before .before .before .before .before .before .before .before .before .before .before .before .before .round-admission .ensures in
+    let yes = sym (x .0) ∙ ap admissionNumber (c .before .before .before .before .before .before .before .before .before .before .before .enum-told2 .given .1) in
+    let r = c .before .before .before .before .before .before .before .run-round in
     let after = round-memory-accepted m (a .answers) lent yes in
-    (x .0, (round-accepted m (a .answers) lent yes (r .result .areas) (r .result .devices) (r .ensures .0) (r .ensures .1 .0), (r .ensures .1 .1 .0 ∙ ap (λ z. z .image) after, r .ensures .1 .1 .1 ∙ ap (λ z. z .store) after)))
+    (x .0, (round-accepted m (a .answers) lent yes (r .result .areas) (r .result .devices) (r .result .wear) (r .ensures .0) (r .ensures .1 .0) (r .ensures .1 .1 .0), (r .ensures .1 .1 .1 .0 ∙ ap (λ z. z .image) after, r .ensures .1 .1 .1 .1 ∙ ap (λ z. z .store) after)))
 
 pub round-change-spec : {M : Type 1} → statement M
 round-change-spec =

@@ -15,13 +15,17 @@ run-from-requires-2 c κs = search needs
 run-from-requires-3 : tie.Need-run-from-requires-3
 run-from-requires-3 c κs = search needs
 
+run-from-requires-4 : tie.Need-run-from-requires-4
+run-from-requires-4 c κs = search needs
+
 returns : tie.Need-returns
 returns c =
-    let d = c .before .before .run-from .ensures in
-    let a = c .before .run-from2 .ensures in
-    let s = c .run-from3 .ensures in
-    (layout-is _ _ _ _ _ _ _ (d .0) (d .1) (a .0) (a .1) (s .0) (s .1), s .2)
+    let d = c .before .before .before .run-from .ensures in
+    let a = c .before .before .run-from2 .ensures in
+    let s = c .before .run-from3 .ensures in
+    let w = c .run-from4 .ensures in
+    (layout-is _ _ _ _ _ _ _ _ _ (d .0) (d .1) (a .0) (a .1) (s .0) (s .1) (w .0) (w .1), w .2)
 
 pub record-layout-spec : {M : Type 1} → statement M
 record-layout-spec =
-    tie.close (tie.spec run-from-requires run-from-requires-2 run-from-requires-3 returns)
+    tie.close (tie.spec run-from-requires run-from-requires-2 run-from-requires-3 run-from-requires-4 returns)

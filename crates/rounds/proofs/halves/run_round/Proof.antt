@@ -2,66 +2,70 @@ use Prim.Native.Nat.{_-_, _≤_}
 use mathlib.Core.List.{[]}
 use mathlib.Core.Path.{_≡_, refl, ap, _∙_}
 use native.Mathlib.Omega.{arith}
-use lib.ListN.{length, length-set}
+use lib.ListN.{length, set, length-set}
 use Rattle.machine.specs.laws.Dues.{Due}
 use Rattle.machine.specs.laws.SoundCases.{sound-counts}
 use Rattle.devices.specs.Arrays.{jobIn, coreIn}
 use Rattle.effects.specs.Effects.{memoryOf}
 use Rattle.rules.specs.Machine.{secondHalf}
-use Rattle.rules.specs.Round.{takeAll, answerFor}
-use Rattle.close.specs.Close.{areaAfter, lentTo}
+use Rattle.rules.specs.Round.{takeAll, erasesTo, answerFor}
+use Rattle.rules.specs.Wear.{wearAfter}
+use Rattle.close.specs.Close.{areaAfter, lentTo, wearOf}
 use Rattle.rounds.specs.laws.AnswerLaws.{turn-sound, image-again, store-again}
 use Rattle.rounds.specs.laws.CloseLaws.{ClosedTo, closed-none, closed-turn, closed-all}
 use Rattle.rounds.specs.laws.Halves.{both, take-turn}
 use Rattle.rounds.specs.laws.NeedLaws.{whole-areas, whole-devices, whole-memory}
 use Rattle.rounds.specs.laws.PickLaws.{start-turn, second-turn}
 use Rattle.close.specs.laws.Waits.{needsLayout}
-use Rattle.rounds.specs.laws.Turns.{lent-turn, whole-turn}
+use Rattle.rounds.specs.laws.Turns.{lent-turn, whole-turn, wear-turn}
+use Rattle.rounds.specs.laws.WearTurns.{erases-turn}
 use borrow.Author.Needs.{needs, elem-fits}
 use Rattle.rounds.proofs.halves.run_round.Statement.{statement}
 use Rattle.rounds.proofs.halves.run_round.Tie as tie
 use Rattle.rounds.proofs.halves.run_round.Reads as reads
 use Rattle.rounds.proofs.halves.run_round.Lts as lts
-use Rattle.devices.proofs.state_on.Reads as state-on-reads
-use Rattle.machine.proofs.soundness.runner.Reads as runner-reads
 use Rattle.answers.proofs.take_answer.Reads as take-answer-reads
 use Rattle.close.proofs.closed_area.Reads as closed-area-reads
+use Rattle.devices.proofs.state_on.Reads as state-on-reads
+use Rattle.machine.proofs.soundness.runner.Reads as runner-reads
 use Rattle.picks.proofs.chosen.Reads as chosen-reads
-use Rattle.rounds.proofs.halves.needed_devices.Reads as needed-devices-reads
 use Rattle.picks.proofs.pick_area.Reads as pick-area-reads
 use Rattle.picks.proofs.slot_on.Reads as slot-on-reads
 use Rattle.picks.proofs.start_choice.Reads as start-choice-reads
+use Rattle.rounds.proofs.halves.needed_devices.Reads as needed-devices-reads
+use Rattle.wear.proofs.worn_to.Reads as worn-to-reads
 
 abbrev Inv-loop : tie.InvT-loop
-Inv-loop plan ages image₀ store₀ answers areas₀ devices₀ dues₀ before sub-areas records device-records d₀ image store areas devices dues d =
+Inv-loop plan ages image₀ store₀ answers areas₀ devices₀ dues₀ wear₀ before sub-areas records device-records d₀ image store areas devices dues wear d =
     (plan .«device_count» ≤ 4) × (plan .«area_count» ≤ 8) × (plan .«sub_area_count» ≤ 32) × (d ≤ plan .«device_count») × (sub-areas ≡ plan .«sub_areas») × (records ≡ plan .areas) × (device-records ≡ plan .devices)
     × (length image ≡ length image₀) × (length store ≡ length store₀) × (length areas ≡ 8) × (length devices ≡ 4) × (length dues ≡ 8)
     × ((coreIn areas devices, memoryOf image store) ≡ both (takeAll plan answers d (lentTo areas₀ devices₀ (memoryOf image₀ store₀))))
     × Due plan dues (jobIn areas)
+    × (length wear ≡ 32) × (wear ≡ wearAfter plan (erasesTo plan answers d (lentTo areas₀ devices₀ (memoryOf image₀ store₀))) wear₀)
 
 abbrev μ-loop : tie.MeasureT-loop
-μ-loop plan ages image₀ store₀ answers areas₀ devices₀ dues₀ before sub-areas records device-records d₀ image store areas devices dues d = plan .«device_count» - d
+μ-loop plan ages image₀ store₀ answers areas₀ devices₀ dues₀ wear₀ before sub-areas records device-records d₀ image store areas devices dues wear d = plan .«device_count» - d
 
 abbrev Inv-loop2 : tie.InvT-loop2
-Inv-loop2 plan ages image store areas₀ devices₀ before records device-records d needs e₀ areas devices e =
+Inv-loop2 plan ages image store areas₀ devices₀ wear before records device-records d needs e₀ areas devices e =
     (e ≤ plan .«device_count») × (length areas ≡ 8) × (length devices ≡ 4)
     × (coreIn areas devices ≡ secondHalf (needsLayout records ages (plan .«area_count») device-records needs) e (coreIn areas₀ devices₀))
 
 abbrev μ-loop2 : tie.MeasureT-loop2
-μ-loop2 plan ages image store areas₀ devices₀ before records device-records d needs e₀ areas devices e = plan .«device_count» - e
+μ-loop2 plan ages image store areas₀ devices₀ wear before records device-records d needs e₀ areas devices e = plan .«device_count» - e
 
 abbrev Inv-loop3 : tie.InvT-loop3
-Inv-loop3 ages image store areas₀ devices before records d needs e a₀ areas a =
+Inv-loop3 ages image store areas₀ devices wear before records d needs e a₀ areas a =
     (a ≤ 8) × ClosedTo (areaAfter (needsLayout records ages 0 [] needs) before (coreIn areas₀ devices)) areas₀ a areas
 
 abbrev μ-loop3 : tie.MeasureT-loop3
-μ-loop3 ages image store areas₀ devices before records d needs e a₀ areas a = 8 - a
+μ-loop3 ages image store areas₀ devices wear before records d needs e a₀ areas a = 8 - a
 
 loop-holds : tie.Need-loop-holds Inv-loop μ-loop Inv-loop2 μ-loop2 Inv-loop3 μ-loop3
-unfolding takeAll
+unfolding takeAll erasesTo wearAfter
 loop-holds c = let s = c .before .before .before .before .before in
     let few = sound-counts (s .args .plan) (s .args .t3) (s .args .t4) (s .pre .0) in
-    (few .0, few .1, few .2, omega arith, refl, refl, refl, refl, refl, s .good .1 .1 .0 .1 .0 .1, s .good .1 .1 .1 .0 .1 .0 .1, s .good .1 .1 .1 .1 .1 .0 .1 .0 .1, refl, s .pre .3)
+    (few .0, few .1, few .2, omega arith, refl, refl, refl, refl, refl, s .good .1 .1 .0 .1 .0 .1, s .good .1 .1 .1 .0 .1 .0 .1, s .good .1 .1 .1 .1 .1 .0 .1 .0 .1, refl, s .pre .3, s .good .1 .1 .1 .1 .1 .1 .0 .1 .0 .1, refl)
 
 mul-device : tie.Need-mul-device Inv-loop μ-loop Inv-loop2 μ-loop2 Inv-loop3 μ-loop3
 mul-device c = omega (arith, c .before .before .loop .inv .0, c .if1 .taken)
@@ -110,8 +114,11 @@ take-answer-requires c κs =
       l .inv .2,
       lent-turn p (l .inv .1) (l .d) (answerFor (s .args .t2) (l .d)) (l .areas) (l .devices) (l .dues) (l .image) (l .store)
           (turn-sound p (s .args .t3) (s .args .t4) (s .pre .0) (s .args .t2) (memoryOf (s .args .image .now) (s .args .store .now)) (l .d) (coreIn (l .areas) (l .devices)) (ap (λ x. x .0) (l .inv .12)) (c .before .before .before .before .before .before .before .before .before .if1 .taken))
-          (image-again _ _ _ (l .inv .7) (s .pre .1)) (store-again _ _ _ (l .inv .8) (s .pre .2)) (l .inv .13) _ _ _ (l .inv .4) (l .inv .5) (l .inv .6) (c .before .before .before .before .before .before .before .runner .result) (c .before .before .before .before .before .before .before .runner .ensures .0),
+          (image-again _ _ _ (l .inv .7) (s .pre .1)) (store-again _ _ _ (l .inv .8) (s .pre .2)) (l .inv .13) _ _ _ (l .inv .4) (l .inv .5) (l .inv .6) (c .before .before .before .before .before .before .before .runner .result) (c .before .before .before .before .before .before .before .runner .ensures .0) (l .inv .2),
     )
+
+cast-place : tie.Need-cast-place Inv-loop μ-loop Inv-loop2 μ-loop2 Inv-loop3 μ-loop3
+cast-place c = search needs
 
 mul-areas : tie.Need-mul-areas Inv-loop μ-loop Inv-loop2 μ-loop2 Inv-loop3 μ-loop3
 mul-areas c = search needs
@@ -126,41 +133,65 @@ array-set-from-dues : tie.Need-array-set-from-dues Inv-loop μ-loop Inv-loop2 μ
 array-set-from-dues c = search needs
 
 mul-devices : tie.Need-mul-devices Inv-loop μ-loop Inv-loop2 μ-loop2 Inv-loop3 μ-loop3
-mul-devices c = omega (arith, c .before .before .before .before .before .before .before .before .before .before .before .before .before .before .before .before .before .before .before .loop .inv .0, c .before .before .before .before .before .before .before .before .before .before .before .before .before .before .before .before .before .if1 .taken)
+mul-devices c = omega (arith, c .before .before .before .before .before .before .before .before .before .before .before .before .before .before .before .before .before .before .before .before .before .loop .inv .0, c .before .before .before .before .before .before .before .before .before .before .before .before .before .before .before .before .before .before .before .if1 .taken)
 
 array-set-from-devices : tie.Need-array-set-from-devices Inv-loop μ-loop Inv-loop2 μ-loop2 Inv-loop3 μ-loop3
-array-set-from-devices c = omega (arith, c .before .before .before .before .before .before .before .before .before .before .before .before .before .before .before .before .before .before .before .loop .inv .0, c .before .before .before .before .before .before .before .before .before .before .before .before .before .before .before .before .before .if1 .taken)
+array-set-from-devices c = omega (arith, c .before .before .before .before .before .before .before .before .before .before .before .before .before .before .before .before .before .before .before .before .before .loop .inv .0, c .before .before .before .before .before .before .before .before .before .before .before .before .before .before .before .before .before .before .before .if1 .taken)
+
+mul-worn-to : tie.Need-mul-worn-to Inv-loop μ-loop Inv-loop2 μ-loop2 Inv-loop3 μ-loop3
+mul-worn-to c = omega (arith, c .before .before .before .before .before .before .before .before .before .take-answer .ensures .1 .1 .1 .0 .1)
+
+array-read-worn-to : tie.Need-array-read-worn-to Inv-loop μ-loop Inv-loop2 μ-loop2 Inv-loop3 μ-loop3
+array-read-worn-to c = omega (arith, c .before .before .before .before .before .before .before .before .before .before .before .before .before .before .before .before .before .before .before .before .before .loop .inv .14, c .before .before .before .before .before .before .before .before .before .take-answer .ensures .1 .1 .1 .0 .1)
+
+worn-to-requires : tie.Need-worn-to-requires Inv-loop μ-loop Inv-loop2 μ-loop2 Inv-loop3 μ-loop3
+worn-to-requires c κs = search needs
+
+mul-wear : tie.Need-mul-wear Inv-loop μ-loop Inv-loop2 μ-loop2 Inv-loop3 μ-loop3
+mul-wear c = omega (arith, c .before .before .before .before .before .before .before .before .before .before .take-answer .ensures .1 .1 .1 .0 .1)
+
+array-write-wear : tie.Need-array-write-wear Inv-loop μ-loop Inv-loop2 μ-loop2 Inv-loop3 μ-loop3
+array-write-wear c = omega (arith, c .before .before .before .before .before .before .before .before .before .before .before .before .before .before .before .before .before .before .before .before .before .before .loop .inv .14, c .before .before .before .before .before .before .before .before .before .before .take-answer .ensures .1 .1 .1 .0 .1)
 
 add-d : tie.Need-add-d Inv-loop μ-loop Inv-loop2 μ-loop2 Inv-loop3 μ-loop3
-add-d c = omega (arith, c .before .before .before .before .before .before .before .before .before .before .before .before .before .before .before .before .before .before .before .loop .inv .0, c .before .before .before .before .before .before .before .before .before .before .before .before .before .before .before .before .before .if1 .taken)
+add-d c = omega (arith, c .before .before .before .before .before .before .before .before .before .before .before .before .before .before .before .before .before .before .before .before .before .before .loop .inv .0, c .before .before .before .before .before .before .before .before .before .before .before .before .before .before .before .before .before .before .before .before .if1 .taken)
 
 loop-less : tie.Need-loop-less Inv-loop μ-loop Inv-loop2 μ-loop2 Inv-loop3 μ-loop3
-loop-less c = search needs
+loop-less c = omega (arith, c .before .before .before .before .before .before .before .before .before .before .before .before .before .before .before .before .before .before .before .before .if1 .taken)
 
 loop-again : tie.Need-loop-again Inv-loop μ-loop Inv-loop2 μ-loop2 Inv-loop3 μ-loop3
 loop-again c =
-    let s = c .before .before .before .before .before .before .before .before .before .before .before .before .before .before .before .before .before .before .before .before .before .before .before .before .before in
+    let s = c .before .before .before .before .before .before .before .before .before .before .before .before .before .before .before .before .before .before .before .before .before .before .before .before .before .before .before .before in
     let p = s .args .plan in
-    let l = c .before .before .before .before .before .before .before .before .before .before .before .before .before .before .before .before .before .before .before .loop in
-    let t = c .before .before .before .before .before .before .before .take-answer in
-    let turn = whole-turn p (l .inv .1) (l .d) (answerFor (s .args .t2) (l .d)) (l .areas) (l .devices) (l .dues) (l .image) (l .store)
-    (turn-sound p (s .args .t3) (s .args .t4) (s .pre .0) (s .args .t2) (memoryOf (s .args .image .now) (s .args .store .now)) (l .d) (coreIn (l .areas) (l .devices)) (ap (λ x. x .0) (l .inv .12)) (c .before .before .before .before .before .before .before .before .before .before .before .before .before .before .before .before .before .if1 .taken))
-    (image-again _ _ _ (l .inv .7) (s .pre .1)) (store-again _ _ _ (l .inv .8) (s .pre .2)) (l .inv .13) _ _ _ (l .inv .4) (l .inv .5) (l .inv .6) (c .before .before .before .before .before .before .before .before .before .before .before .before .before .before .before .runner .result) (c .before .before .before .before .before .before .before .before .before .before .before .before .before .before .before .runner .ensures .0) (l .inv .9) (l .inv .10) (l .inv .11) (omega (arith, l .inv .0, c .before .before .before .before .before .before .before .before .before .before .before .before .before .before .before .before .before .if1 .taken))
-    (t .result .area) (t .result .due) (t .result .device) _ _ (t .ensures .0) (t .ensures .1 .0) (t .ensures .1 .1 .0) (t .ensures .1 .1 .1 .0) (t .ensures .1 .1 .1 .1) in (
+    let l = c .before .before .before .before .before .before .before .before .before .before .before .before .before .before .before .before .before .before .before .before .before .before .loop in
+    let more = c .before .before .before .before .before .before .before .before .before .before .before .before .before .before .before .before .before .before .before .before .if1 .taken in
+    let r = c .before .before .before .before .before .before .before .before .before .before .before .before .before .before .before .before .before .before .runner in
+    let t = c .before .before .before .before .before .before .before .before .before .before .take-answer in
+    let lent = lentTo (s .args .t3) (s .args .t4) (memoryOf (s .args .image .now) (s .args .store .now)) in
+    let sound = turn-sound p (s .args .t3) (s .args .t4) (s .pre .0) (s .args .t2) (memoryOf (s .args .image .now) (s .args .store .now)) (l .d) (coreIn (l .areas) (l .devices)) (ap (λ x. x .0) (l .inv .12)) more in
+    let turn = whole-turn p (l .inv .1) (l .d) (answerFor (s .args .t2) (l .d)) (l .areas) (l .devices) (l .dues) (l .image) (l .store) sound
+    (image-again _ _ _ (l .inv .7) (s .pre .1)) (store-again _ _ _ (l .inv .8) (s .pre .2)) (l .inv .13) _ _ _ (l .inv .4) (l .inv .5) (l .inv .6) (r .result) (r .ensures .0) (l .inv .9) (l .inv .10) (l .inv .11) (omega (arith, l .inv .0, more))
+    (t .result .area) (t .result .due) (t .result .device) _ _ (t .ensures .0) (t .ensures .1 .0) (t .ensures .1 .1 .0) (t .ensures .1 .1 .1 .1 .0) (t .ensures .1 .1 .1 .1 .1) in
+    let worn = wear-turn p (l .inv .1) (l .d) (answerFor (s .args .t2) (l .d)) (l .areas) (l .devices) (l .dues) (l .image) (l .store) sound
+    (image-again _ _ _ (l .inv .7) (s .pre .1)) (store-again _ _ _ (l .inv .8) (s .pre .2)) (l .inv .13) _ _ _ (l .inv .4) (l .inv .5) (l .inv .6) (r .result) (r .ensures .0)
+    (erasesTo p (s .args .t2) (l .d) lent) (s .args .t7) (l .wear) (l .inv .15) (t .result .worn) (t .ensures .1 .1 .1 .0 .0) (c .worn-to .ensures .1) in (
       l .inv .0,
       l .inv .1,
       l .inv .2,
-      omega (arith, c .before .before .before .before .before .before .before .before .before .before .before .before .before .before .before .before .before .if1 .taken),
+      omega (arith, more),
       l .inv .4,
       l .inv .5,
       l .inv .6,
-      omega (arith, l .inv .7),
-      omega (arith, l .inv .8),
+      omega (arith, l .inv .7, t .kept .1 .1 .1 .1 .1 .1 .1 .1 .0),
+      omega (arith, l .inv .8, t .kept .1 .1 .1 .1 .1 .1 .1 .1 .1 .0),
       rw length-set (l .inv .9),
       rw length-set (l .inv .10),
       rw length-set (l .inv .11),
-      turn .0 ∙ take-turn p (s .args .t2) (lentTo (s .args .t3) (s .args .t4) (memoryOf (s .args .image .now) (s .args .store .now))) (l .d) (coreIn (l .areas) (l .devices), memoryOf (l .image) (l .store)) (l .inv .12),
+      turn .0 ∙ take-turn p (s .args .t2) lent (l .d) (coreIn (l .areas) (l .devices), memoryOf (l .image) (l .store)) (l .inv .12),
       turn .1,
+      rw length-set (l .inv .14),
+      ap (set (l .wear) (t .result .worn .«sub_area»)) (c .worn-to .ensures .0) ∙ worn
+          ∙ ap (λ es. wearAfter p es (s .args .t7)) (erases-turn p (s .args .t2) lent (l .d) (coreIn (l .areas) (l .devices), memoryOf (l .image) (l .store)) (l .inv .12)),
     )
 
 needed-devices-requires : tie.Need-needed-devices-requires Inv-loop μ-loop Inv-loop2 μ-loop2 Inv-loop3 μ-loop3
@@ -305,6 +336,7 @@ same-length-2 : tie.Need-same-length-2 Inv-loop μ-loop Inv-loop2 μ-loop2 Inv-l
 same-length-2 c = search needs
 
 returns : tie.Need-returns Inv-loop μ-loop Inv-loop2 μ-loop2 Inv-loop3 μ-loop3
+unfolding wearOf
 returns c =
     let s = c .before .before .before .before .before .before .before .before .before .before .before .before .before .before in
     let p = s .args .plan in
@@ -321,7 +353,10 @@ returns c =
       whole-areas p (s .args .t3) (s .args .t4) (s .args .ages) (s .args .t2) m (h .inv .1) (h .areas) (h .devices) (ap (λ x. x .0) first) (h .dues) (h .inv .13) needs (c .before .before .before .before .before .needed-devices .ensures) (k .areas) (k .devices) second (l .areas) closed,
       (
         whole-devices p (s .args .t3) (s .args .t4) (s .args .ages) (s .args .t2) m (h .inv .1) (h .areas) (h .devices) (ap (λ x. x .0) first) (h .dues) (h .inv .13) needs (c .before .before .before .before .before .needed-devices .ensures) (k .areas) (k .devices) second (k .inv .2),
-        (ap (λ x. x .1 .image) first ∙ ap (λ x. x .image) (whole-memory p (s .args .t3) (s .args .t4) (s .args .ages) (s .args .t2) m), ap (λ x. x .1 .store) first ∙ ap (λ x. x .store) (whole-memory p (s .args .t3) (s .args .t4) (s .args .ages) (s .args .t2) m)),
+        (
+          h .inv .15 ∙ ap (λ n. wearAfter p (erasesTo p (s .args .t2) n (lentTo (s .args .t3) (s .args .t4) m)) (s .args .t7)) answered,
+          (ap (λ x. x .1 .image) first ∙ ap (λ x. x .image) (whole-memory p (s .args .t3) (s .args .t4) (s .args .ages) (s .args .t2) m), ap (λ x. x .1 .store) first ∙ ap (λ x. x .store) (whole-memory p (s .args .t3) (s .args .t4) (s .args .ages) (s .args .t2) m)),
+        ),
       ),
     )
 
@@ -350,12 +385,18 @@ run-round-spec =
     mul-take-answer-5
     array-copy-out-take-answer-5
     take-answer-requires
+    cast-place
     mul-areas
     array-set-from-areas
     mul-dues
     array-set-from-dues
     mul-devices
     array-set-from-devices
+    mul-worn-to
+    array-read-worn-to
+    worn-to-requires
+    mul-wear
+    array-write-wear
     add-d
     loop-less
     loop-again

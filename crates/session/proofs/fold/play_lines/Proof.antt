@@ -28,14 +28,14 @@ use Rattle.session.proofs.play.print_round.Reads as print-round-reads
 use Rattle.texts.proofs.question_line.Reads as question-line-reads
 
 abbrev Inv-loop : tie.InvT-loop
-Inv-loop input ends image₀ store₀ out₀ plan areas₀ devices₀ ages₀ at₀ end₀ image store out areas devices ages at end = (at ≤ length input + 1) × (end ≤ length out) × (length image ≡ length image₀) × (length store ≡ length store₀) × (length out ≡ length out₀) × (playedLines ends (length out₀) (cutFrom 10 input at) (sessionOf (managerOf plan areas devices ages) image store out end (usedTo at input)) ≡ playedInput ends (length out₀) input (sessionOf (managerOf plan areas₀ devices₀ ages₀) image₀ store₀ out₀ 0 0))
+Inv-loop input ends image₀ store₀ out₀ plan areas₀ devices₀ ages₀ wear₀ at₀ end₀ image store out areas devices ages wear at end = (at ≤ length input + 1) × (end ≤ length out) × (length image ≡ length image₀) × (length store ≡ length store₀) × (length out ≡ length out₀) × (playedLines ends (length out₀) (cutFrom 10 input at) (sessionOf (managerOf plan areas devices ages wear) image store out end (usedTo at input)) ≡ playedInput ends (length out₀) input (sessionOf (managerOf plan areas₀ devices₀ ages₀ wear₀) image₀ store₀ out₀ 0 0))
 
 abbrev μ-loop : tie.MeasureT-loop
-μ-loop input ends image₀ store₀ out₀ plan areas₀ devices₀ ages₀ at₀ end₀ image store out areas devices ages at end = length input + 1 - at
+μ-loop input ends image₀ store₀ out₀ plan areas₀ devices₀ ages₀ wear₀ at₀ end₀ image store out areas devices ages wear at end = length input + 1 - at
 
 loop-holds : tie.Need-loop-holds Inv-loop μ-loop
 loop-holds c =
-    let a = c .before .before .before .before .before .before .before .before .args in
+    let a = c .before .before .before .before .before .before .before .before .before .args in
     let zero : usedTo 0 (a .input .now) ≡ 0 = omega arith in
     (omega arith, omega arith, refl, refl, refl, ap (λ u. playedLines (a .ends) (length (a .out .now)) (cutFrom 10 (a .input .now) 0) (sessionOf (a .manager) (a .image .now) (a .store .now) (a .out .now) 0 u)) zero ∙ ap (λ F. playedLines (a .ends) (length (a .out .now)) F (sessionOf (a .manager) (a .image .now) (a .store .now) (a .out .now) 0 0)) (fields-all 10 (a .input .now)))
 
@@ -54,8 +54,8 @@ same-length-3 c = search needs
 returns : tie.Need-returns Inv-loop μ-loop
 returns c =
     let l = c .before .before .loop in
-    let a = c .before .before .before .before .before .before .before .before .before .before .before .args in
-    let m = managerOf (a .manager .plan) (l .areas) (l .devices) (l .ages) in
+    let a = c .before .before .before .before .before .before .before .before .before .before .before .before .args in
+    let m = managerOf (a .manager .plan) (l .areas) (l .devices) (l .ages) (l .wear) in
     let u : l .at ≡ usedTo (l .at) (a .input .now) = omega arith in (
       ap (sessionOf m (l .image) (l .store) (l .out) (l .end)) u
           ∙ lines-full (a .ends) (length (a .out .now)) m (l .image) (l .store) (l .out) (l .end) (usedTo (l .at) (a .input .now)) (omega arith) (omega arith) (cutFrom 10 (a .input .now) (l .at))
@@ -81,8 +81,8 @@ same-length-6 c = search needs
 returns-2 : tie.Need-returns-2 Inv-loop μ-loop
 returns-2 c =
     let l = c .before .before .before .before .before .loop in
-    let a = c .before .before .before .before .before .before .before .before .before .before .before .before .before .before .args in
-    let m = managerOf (a .manager .plan) (l .areas) (l .devices) (l .ages) in
+    let a = c .before .before .before .before .before .before .before .before .before .before .before .before .before .before .before .args in
+    let m = managerOf (a .manager .plan) (l .areas) (l .devices) (l .ages) (l .wear) in
     let e = c .before .before .part-end in
     let u : l .at ≡ usedTo (l .at) (a .input .now) = omega arith in
     let no = sym (c .before .is-line .ensures) ∙ not-true _ (c .if2 .taken) in (
@@ -120,8 +120,8 @@ loop-less c = omega (arith, c .before .before .before .before .before .before .b
 loop-again : tie.Need-loop-again Inv-loop μ-loop
 loop-again c =
     let l = c .before .before .before .before .before .before .before .before .before .before .before .before .before .loop in
-    let a = c .before .before .before .before .before .before .before .before .before .before .before .before .before .before .before .before .before .before .before .before .before .before .args in
-    let m = managerOf (a .manager .plan) (l .areas) (l .devices) (l .ages) in
+    let a = c .before .before .before .before .before .before .before .before .before .before .before .before .before .before .before .before .before .before .before .before .before .before .before .args in
+    let m = managerOf (a .manager .plan) (l .areas) (l .devices) (l .ages) (l .wear) in
     let e = c .before .before .before .before .before .before .before .before .before .before .part-end in
     let more = c .before .before .before .before .before .before .before .before .before .before .before .before .loop-test .taken in
     let room = c .before .before .before .before .before .before .before .before .before .before .before .if1 .left in
@@ -161,8 +161,8 @@ loop-less-2 c = omega (arith, c .before .before .before .before .before .before 
 loop-again-2 : tie.Need-loop-again-2 Inv-loop μ-loop
 loop-again-2 c =
     let l = c .before .before .before .before .before .before .before .before .before .before .before .before .before .before .before .before .before .before .loop in
-    let a = c .before .before .before .before .before .before .before .before .before .before .before .before .before .before .before .before .before .before .before .before .before .before .before .before .before .before .before .args in
-    let m = managerOf (a .manager .plan) (l .areas) (l .devices) (l .ages) in
+    let a = c .before .before .before .before .before .before .before .before .before .before .before .before .before .before .before .before .before .before .before .before .before .before .before .before .before .before .before .before .args in
+    let m = managerOf (a .manager .plan) (l .areas) (l .devices) (l .ages) (l .wear) in
     let e = c .before .before .before .before .before .before .before .before .before .before .before .before .before .before .before .part-end in
     let more = c .before .before .before .before .before .before .before .before .before .before .before .before .before .before .before .before .before .loop-test .taken in
     let room = c .before .before .before .before .before .before .before .before .before .before .before .before .before .before .before .before .if1 .left in
@@ -170,7 +170,7 @@ loop-again-2 c =
     let yes = sym (c .before .before .before .before .before .before .before .before .before .before .before .before .before .before .is-line .ensures) ∙ not-false _ (c .before .before .before .before .before .before .before .before .before .before .before .before .before .if2 .left) in
     let r = c .before .before .before .before .before .before .before .make .ensures in
     let p = c .before .before .print-answer .ensures in
-    let d = call-done _ m (memoryOf (l .image) (l .store)) _ _ (c .before .before .before .before .before .before .before .before .before .line .given .1) _ (r .0) (r .1 .0) (p .0) (p .1) in
+    let d = call-done _ m (memoryOf (l .image) (l .store)) _ _ (c .before .before .before .before .before .before .before .before .before .line .given .1) _ (r .0 (l .wear)) (r .1 .0 (l .wear)) (p .0) (p .1) in
     let t = lines-turn (a .ends) (length (a .out .now)) m (l .image) (l .store) (l .out) (l .end) (usedTo (l .at) (a .input .now)) (l .inv .1)
     (omega (arith, room, l .inv .4)) (a .input .now) (l .at) (e .result) (e .ensures .0) (e .ensures .1) (e .ensures .2) yes u _ _ (l .image) (l .store)
     (c .before .before .before .before .before .before .before .before .before .before .before .line-of .ensures) d _ (l .inv .5) in
@@ -194,8 +194,8 @@ loop-less-3 c = omega (arith, c .before .before .before .before .before .before 
 loop-again-3 : tie.Need-loop-again-3 Inv-loop μ-loop
 loop-again-3 c =
     let l = c .before .before .before .before .before .before .before .before .before .before .before .before .before .before .before .loop in
-    let a = c .before .before .before .before .before .before .before .before .before .before .before .before .before .before .before .before .before .before .before .before .before .before .before .before .args in
-    let m = managerOf (a .manager .plan) (l .areas) (l .devices) (l .ages) in
+    let a = c .before .before .before .before .before .before .before .before .before .before .before .before .before .before .before .before .before .before .before .before .before .before .before .before .before .args in
+    let m = managerOf (a .manager .plan) (l .areas) (l .devices) (l .ages) (l .wear) in
     let e = c .before .before .before .before .before .before .before .before .before .before .before .before .part-end in
     let more = c .before .before .before .before .before .before .before .before .before .before .before .before .before .before .loop-test .taken in
     let room = c .before .before .before .before .before .before .before .before .before .before .before .before .before .if1 .left in
@@ -203,7 +203,7 @@ loop-again-3 c =
     let yes = sym (c .before .before .before .before .before .before .before .before .before .before .before .is-line .ensures) ∙ not-false _ (c .before .before .before .before .before .before .before .before .before .before .if2 .left) in
     let r = c .before .before .before .before .info-of .ensures in
     let p = c .before .before .print-info .ensures in
-    let d = info-done _ m (memoryOf (l .image) (l .store)) _ (c .before .before .before .before .before .before .line2 .given .1) _ _ (r .0 (l .ages)) (r .1 (l .ages)) (p .0) (p .1) in
+    let d = info-done _ m (memoryOf (l .image) (l .store)) _ (c .before .before .before .before .before .before .line2 .given .1) _ _ (r .0 (l .ages) (l .wear)) (r .1 (l .ages) (l .wear)) (p .0) (p .1) in
     let t = lines-turn (a .ends) (length (a .out .now)) m (l .image) (l .store) (l .out) (l .end) (usedTo (l .at) (a .input .now)) (l .inv .1)
     (omega (arith, room, l .inv .4)) (a .input .now) (l .at) (e .result) (e .ensures .0) (e .ensures .1) (e .ensures .2) yes u _ m (l .image) (l .store)
     (c .before .before .before .before .before .before .before .before .line-of .ensures) d _ (l .inv .5) in
@@ -217,31 +217,31 @@ round-change-requires c κs = search needs
 
 print-round-requires : tie.Need-print-round-requires Inv-loop μ-loop
 print-round-requires c κs =
-    let l = c .before .before .before .before .before .before .before .before .before .before .before .before .before .before .before .before .before .before .before .before .loop in
-    let m = managerOf (c .before .before .before .before .before .before .before .before .before .before .before .before .before .before .before .before .before .before .before .before .before .before .before .before .before .before .before .before .before .args .manager .plan) (l .areas) (l .devices) (l .ages) in
-    let r = c .before .before .before .before .before .before .before .round-change .ensures in
-    (omega (arith, c .before .before .before .before .before .before .before .before .before .before .before .before .before .before .before .before .before .before .if1 .left), λ z. round-shows m _ (memoryOf (l .image) (l .store)) (sym (r .0) ∙ z) _ (r .1 .0))
+    let l = c .before .before .before .before .before .before .before .before .before .before .before .before .before .before .before .before .before .before .before .before .before .loop in
+    let m = managerOf (c .before .before .before .before .before .before .before .before .before .before .before .before .before .before .before .before .before .before .before .before .before .before .before .before .before .before .before .before .before .before .before .args .manager .plan) (l .areas) (l .devices) (l .ages) (l .wear) in
+    let r = c .before .before .before .before .before .before .before .before .round-change .ensures in
+    (omega (arith, c .before .before .before .before .before .before .before .before .before .before .before .before .before .before .before .before .before .before .before .if1 .left), λ z. round-shows m _ (memoryOf (l .image) (l .store)) (sym (r .0) ∙ z) _ (r .1 .0))
 
 loop-less-4 : tie.Need-loop-less-4 Inv-loop μ-loop
-loop-less-4 c = omega (arith, c .before .before .before .before .before .before .before .before .before .before .before .before .before .before .before .before .before .before .before .before .before .before .loop-test .taken, c .before .before .before .before .before .before .before .before .before .before .before .before .before .before .before .before .before .before .before .before .part-end .ensures .0)
+loop-less-4 c = omega (arith, c .before .before .before .before .before .before .before .before .before .before .before .before .before .before .before .before .before .before .before .before .before .before .before .loop-test .taken, c .before .before .before .before .before .before .before .before .before .before .before .before .before .before .before .before .before .before .before .before .before .part-end .ensures .0)
 
 loop-again-4 : tie.Need-loop-again-4 Inv-loop μ-loop
 loop-again-4 c =
-    let l = c .before .before .before .before .before .before .before .before .before .before .before .before .before .before .before .before .before .before .before .before .before .before .before .loop in
-    let a = c .before .before .before .before .before .before .before .before .before .before .before .before .before .before .before .before .before .before .before .before .before .before .before .before .before .before .before .before .before .before .before .before .args in
-    let m = managerOf (a .manager .plan) (l .areas) (l .devices) (l .ages) in
-    let e = c .before .before .before .before .before .before .before .before .before .before .before .before .before .before .before .before .before .before .before .before .part-end in
-    let more = c .before .before .before .before .before .before .before .before .before .before .before .before .before .before .before .before .before .before .before .before .before .before .loop-test .taken in
-    let room = c .before .before .before .before .before .before .before .before .before .before .before .before .before .before .before .before .before .before .before .before .before .if1 .left in
+    let l = c .before .before .before .before .before .before .before .before .before .before .before .before .before .before .before .before .before .before .before .before .before .before .before .before .loop in
+    let a = c .before .before .before .before .before .before .before .before .before .before .before .before .before .before .before .before .before .before .before .before .before .before .before .before .before .before .before .before .before .before .before .before .before .before .args in
+    let m = managerOf (a .manager .plan) (l .areas) (l .devices) (l .ages) (l .wear) in
+    let e = c .before .before .before .before .before .before .before .before .before .before .before .before .before .before .before .before .before .before .before .before .before .part-end in
+    let more = c .before .before .before .before .before .before .before .before .before .before .before .before .before .before .before .before .before .before .before .before .before .before .before .loop-test .taken in
+    let room = c .before .before .before .before .before .before .before .before .before .before .before .before .before .before .before .before .before .before .before .before .before .before .if1 .left in
     let u : usedTo (l .at) (a .input .now) ≡ l .at = omega (arith, more) in
-    let yes = sym (c .before .before .before .before .before .before .before .before .before .before .before .before .before .before .before .before .before .before .before .is-line .ensures) ∙ not-false _ (c .before .before .before .before .before .before .before .before .before .before .before .before .before .before .before .before .before .before .if2 .left) in
-    let r = c .before .before .before .before .before .before .before .before .before .before .round-change .ensures in
+    let yes = sym (c .before .before .before .before .before .before .before .before .before .before .before .before .before .before .before .before .before .before .before .before .is-line .ensures) ∙ not-false _ (c .before .before .before .before .before .before .before .before .before .before .before .before .before .before .before .before .before .before .before .if2 .left) in
+    let r = c .before .before .before .before .before .before .before .before .before .before .before .round-change .ensures in
     let p = c .before .before .print-round .ensures in
-    let d = round-done _ m (memoryOf (l .image) (l .store)) _ _ _ _ _ (memoryOf _ _) (c .before .before .before .before .before .before .before .before .before .before .before .before .before .before .line3 .given .1) _ (r .0) (r .1 .0) (r .1 .1 .0) (r .1 .1 .1) (p .0) (p .1) in
+    let d = round-done _ m (memoryOf (l .image) (l .store)) _ _ _ _ _ (memoryOf _ _) (c .before .before .before .before .before .before .before .before .before .before .before .before .before .before .before .line3 .given .1) _ (r .0) (r .1 .0) (r .1 .1 .0) (r .1 .1 .1) (p .0) (p .1) in
     let t = lines-turn (a .ends) (length (a .out .now)) m (l .image) (l .store) (l .out) (l .end) (usedTo (l .at) (a .input .now)) (l .inv .1)
     (omega (arith, room, l .inv .4)) (a .input .now) (l .at) (e .result) (e .ensures .0) (e .ensures .1) (e .ensures .2) yes u _ _ _ _
-    (c .before .before .before .before .before .before .before .before .before .before .before .before .before .before .before .before .line-of .ensures) d _ (l .inv .5) in
-    (omega (arith, e .ensures .1), omega (arith, t .0, t .1, room), omega (arith, c .before .before .before .before .before .before .before .before .before .image .given), omega (arith, c .before .before .before .before .before .before .before .store .given), t .1 ∙ l .inv .4, t .2)
+    (c .before .before .before .before .before .before .before .before .before .before .before .before .before .before .before .before .before .line-of .ensures) d _ (l .inv .5) in
+    (omega (arith, e .ensures .1), omega (arith, t .0, t .1, room), omega (arith, c .before .before .before .before .before .before .before .before .before .before .image .given), omega (arith, c .before .before .before .before .before .before .before .before .store .given), t .1 ∙ l .inv .4, t .2)
 
 same-length-7 : tie.Need-same-length-7 Inv-loop μ-loop
 same-length-7 c = search needs
@@ -256,8 +256,8 @@ returns-3 : tie.Need-returns-3 Inv-loop μ-loop
 unfolding playedLines
 returns-3 c =
     let l = c .before .loop in
-    let a = c .before .before .before .before .before .before .before .before .before .before .args in
-    let m = managerOf (a .manager .plan) (l .areas) (l .devices) (l .ages) in
+    let a = c .before .before .before .before .before .before .before .before .before .before .before .args in
+    let m = managerOf (a .manager .plan) (l .areas) (l .devices) (l .ages) (l .wear) in
     let u : length (a .input .now) ≡ usedTo (l .at) (a .input .now) = omega arith in (
       ap (sessionOf m (l .image) (l .store) (l .out) (l .end)) u
           ∙ ap (λ F. playedLines (a .ends) (length (a .out .now)) F (sessionOf m (l .image) (l .store) (l .out) (l .end) (usedTo (l .at) (a .input .now)))) (sym (fields-past 10 (a .input .now) (l .at) (omega arith)))

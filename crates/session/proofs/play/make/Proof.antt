@@ -1,3 +1,5 @@
+use Prim.Native.Nat.{ℕ}
+use mathlib.Core.List.{List}
 use Rattle.manager.specs.Calls.{managerOf}
 use Rattle.session.specs.laws.PlayLaws.{plain-done}
 use borrow.Author.Needs.{needs}
@@ -44,22 +46,22 @@ returns : tie.Need-returns
 returns c =
     let a = c .before .before .before .before .before .args in
     let r = c .job-change .ensures in
-    let d = plain-done (a .call) _ _ (c .before .before .before .before .plain-of .ensures) (c .before .before .plain .given .1) (managerOf (a .plan) (a .areas) (a .devices) (a .ages)) _ _ (r .0) (r .1 .0) in
-    (d .0, (d .1, r .1 .1))
+    let d : (wear : List ℕ) → _ = λ wear. plain-done (a .call) _ _ (c .before .before .before .before .plain-of .ensures) (c .before .before .plain .given .1) (managerOf (a .plan) (a .areas) (a .devices) (a .ages) wear) _ _ (r .0 wear) (r .1 .0 wear) in
+    ((λ wear. d wear .0), ((λ wear. d wear .1), r .1 .1))
 
 returns-2 : tie.Need-returns-2
 returns-2 c =
     let a = c .before .before .before .before .before .before .args in
     let r = c .release-change .ensures in
-    let d = plain-done (a .call) _ _ (c .before .before .before .before .before .plain-of .ensures) (c .before .before .before .plain2 .given .1) (managerOf (a .plan) (a .areas) (a .devices) (a .ages)) _ _ (r .0) (r .1 .0) in
-    (d .0, (d .1, r .1 .1))
+    let d : (wear : List ℕ) → _ = λ wear. plain-done (a .call) _ _ (c .before .before .before .before .before .plain-of .ensures) (c .before .before .before .plain2 .given .1) (managerOf (a .plan) (a .areas) (a .devices) (a .ages) wear) _ _ (r .0 wear) (r .1 .0 wear) in
+    ((λ wear. d wear .0), ((λ wear. d wear .1), r .1 .1))
 
 returns-3 : tie.Need-returns-3
 returns-3 c =
     let a = c .before .before .before .before .before .args in
     let r = c .cancel-change .ensures in
-    let d = plain-done (a .call) _ _ (c .before .before .before .before .plain-of .ensures) (c .before .before .plain3 .given .1) (managerOf (a .plan) (a .areas) (a .devices) (a .ages)) _ _ (r .0) (r .1 .0) in
-    (d .0, (d .1, r .1 .1))
+    let d : (wear : List ℕ) → _ = λ wear. plain-done (a .call) _ _ (c .before .before .before .before .plain-of .ensures) (c .before .before .plain3 .given .1) (managerOf (a .plan) (a .areas) (a .devices) (a .ages) wear) _ _ (r .0 wear) (r .1 .0 wear) in
+    ((λ wear. d wear .0), ((λ wear. d wear .1), r .1 .1))
 
 pub make-spec : {M : Type 1} → statement M
 make-spec =

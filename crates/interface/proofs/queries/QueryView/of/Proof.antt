@@ -9,6 +9,7 @@ use Rattle.interface.proofs.queries.MemoryInfoView.of.Reads as queries-
 use Rattle.interface.proofs.queries.ProcessedView.of.Reads as queries-ProcessedView-of-reads
 use Rattle.interface.proofs.queries.ResultView.of.Reads as queries-ResultView-of-reads
 use Rattle.interface.proofs.queries.StatusView.of.Reads as queries-StatusView-of-reads
+use Rattle.interface.proofs.queries.WearInfoView.of.Reads as queries-WearInfoView-of-reads
 
 of-requires : tie.Need-of-requires
 of-requires c κs = search needs
@@ -25,11 +26,15 @@ of-requires-4 c κs = search needs
 of-requires-5 : tie.Need-of-requires-5
 of-requires-5 c κs = search needs
 
+of-requires-6 : tie.Need-of-requires-6
+of-requires-6 c κs = search needs
+
 returns : tie.Need-returns
 unfolding queryView
-returns c = rw (c .of5 .ensures, c .before .of4 .ensures, c .before .before .of3 .ensures, c .before .before .before .of2 .ensures, c .before .before .before .before .of .ensures)
+returns c =
+    rw (c .of6 .ensures, c .before .of5 .ensures, c .before .before .of4 .ensures, c .before .before .before .of3 .ensures, c .before .before .before .before .of2 .ensures, c .before .before .before .before .before .of .ensures)
 
 pub of-spec : {M : Type 1} → statement M
 of-spec =
     tie.close
-    (tie.spec of-requires of-requires-2 of-requires-3 of-requires-4 of-requires-5 returns)
+    (tie.spec of-requires of-requires-2 of-requires-3 of-requires-4 of-requires-5 of-requires-6 returns)

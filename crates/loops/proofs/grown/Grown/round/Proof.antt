@@ -17,7 +17,7 @@ same-length-2 c = search needs
 
 returns : tie.Need-returns
 returns c =
-    let r = c .before .before .before .before .before .before .round-change .ensures in
+    let r = c .before .before .before .before .before .before .before .round-change .ensures in
     (r .0, ((r .1 .0, refl), (r .1 .1 .0, r .1 .1 .1)))
 
 pub round-spec : {M : Type 1} → statement M

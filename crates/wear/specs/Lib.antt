@@ -1,0 +1,2 @@
+pub mod Wear
+pub mod laws
