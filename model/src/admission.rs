@@ -73,7 +73,8 @@ pub fn round(plan: &Plan, image_length: usize, store_length: usize) -> Result<()
     ask(19, store_length >= furthest_window_end(plan))
 }
 
-/// "memory info with length 1". Gives the area.
+/// "memory info with length 1", and the wear query, "addressed and refused like memory info". Gives the
+/// area.
 pub fn memory_info(plan: &Plan, area: u32, address: u32) -> Result<usize, Refusal> {
     let number = known_area(plan, area)?;
     ask(12, is_inside(plan, number, &Target { area, address, length: 1 }.addresses()))?;

@@ -22,6 +22,7 @@ pub enum Query {
     JobInfo,
     /// Of the sub-area that holds this address.
     MemoryInfo(u32),
+    WearInfo(u32),
 }
 
 impl Call {
@@ -46,6 +47,7 @@ impl Query {
             Query::Processed => manager.processed(area).err(),
             Query::JobInfo => manager.job_info(area).err(),
             Query::MemoryInfo(address) => manager.memory_info(area, address).err(),
+            Query::WearInfo(address) => manager.wear_info(area, address).err(),
         }
         .unwrap_or(0)
     }

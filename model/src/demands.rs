@@ -124,13 +124,13 @@ impl Trial {
         ensure(may_change || self.manager == before, || "demand 1: the manager changed".into())
     }
 
-    /// Questions 10 and, for memory info, 12.
+    /// Questions 10 and, for memory info and wear info, 12.
     fn query_number(&self, query: Query, area: u32) -> u8 {
         let index = usize::try_from(area).unwrap_or(usize::MAX);
         let Some(record) = self.plan.areas.get(index) else {
             return 10;
         };
-        let Query::MemoryInfo(address) = query else {
+        let (Query::MemoryInfo(address) | Query::WearInfo(address)) = query else {
             return 0;
         };
         let offset = address.checked_sub(record.logical_start).map(u128::from);

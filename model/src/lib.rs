@@ -1,5 +1,5 @@
-//! An independent model of the memory access manager of document 01 with Req 01 to 04 of document 02, of
-//! which the last changes no answer.
+//! An independent model of the memory access manager of document 01 with Req 01 to 05 of document 02, of
+//! which Req 04 changes no answer.
 //!
 //! The model is written from these documents and the list of readings alone, in the plainest form that
 //! can be held against their sentences. It shares no code with the proved library; with feature
@@ -7,7 +7,7 @@
 //!
 //! The rules:
 //!
-//! - [`plan`]: the records of a plan, and loading (questions 1 to 8);
+//! - [`plan`]: the records of a plan, and loading (questions 1 to 8 and 20);
 //! - [`jobs`]: job types, results, ranges and answers, the terms of the calls;
 //! - [`segments`]: the mapping and the cutting of jobs into pieces;
 //! - [`admission`]: the questions asked of calls (10 to 19);

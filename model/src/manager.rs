@@ -1,4 +1,4 @@
-//! The memory access manager of document 01 with Req 01 to 03 of document 02: jobs, locks,
+//! The memory access manager of document 01 with Req 01 to 03 and 05 of document 02: jobs, locks,
 //! releases, cancels, rounds and queries over a loaded plan.
 //!
 //! Every call answers with the number of the first question answered "no", 0 if there is none; a
@@ -8,7 +8,7 @@ mod queries;
 mod round;
 mod soundness;
 
-pub use queries::{JobInfo, MemoryInfo, RequestInfo};
+pub use queries::{JobInfo, MemoryInfo, RequestInfo, WearInfo};
 
 use crate::admission::{self, Standing};
 use crate::jobs::{Job, JobResult, JobType, Operation, Target};
@@ -24,6 +24,8 @@ pub struct Manager {
     /// For each device its suspended erase, with the polls that it had: "One erase is parked per
     /// chip".
     suspended: Vec<Option<Request>>,
+    /// For each sub-area the sum of its wear, which a record does not ask for.
+    wear: Vec<u32>,
     /// Jobs and locks accepted so far, far fewer than 64 bits can count.
     acceptances: u64,
 }
@@ -154,7 +156,8 @@ impl Manager {
         let areas = vec![AreaState::fresh(); plan.areas.len()];
         let devices = vec![DeviceState::Free; plan.devices.len()];
         let suspended = vec![None; plan.devices.len()];
-        Ok(Manager { plan, areas, devices, suspended, acceptances: 0 })
+        let wear = vec![0; plan.sub_areas.len()];
+        Ok(Manager { plan, areas, devices, suspended, wear, acceptances: 0 })
     }
 
     pub fn plan(&self) -> &Plan {
@@ -180,6 +183,11 @@ impl Manager {
     pub fn set_device(&mut self, device: usize, state: DeviceState, suspended: Option<Request>) {
         self.devices[device] = state;
         self.suspended[device] = suspended;
+    }
+
+    /// The sum of a sub-area's wear, as after many erases: only for tests that come near its limit.
+    pub fn set_wear(&mut self, sub_area: usize, sum: u32) {
+        self.wear[sub_area] = sum;
     }
 
     /// The job of an area, pending with so much processed: only for tests that make a manager wrong.

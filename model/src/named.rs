@@ -1,12 +1,13 @@
-//! Named plans, each with the number that document 01 and the readings give it by hand: both sides
-//! of every limit in questions 1 to 8, and the order of the questions.
+//! Named plans, each with the number that document 01, Req 05 and the readings give it by hand: both sides
+//! of every limit in questions 1 to 8 and 20, and the order of the questions.
 //!
 //! The limits are written out here, not taken from the model.
 
 use crate::plan::{Area, Chip, Device, Plan, SubArea};
 use crate::plan::{AREA_MARK, CLEARING_DEVICE_MARK, DEVICE_MARK};
-use crate::plan::{SUB_AREA_MARK, SUSPENDING_DEVICE_MARK};
-use crate::plans::{encode, encode_records, largest, plan_t, raw_records, regular, RawRecord};
+use crate::plan::{SUB_AREA_MARK, SUSPENDING_DEVICE_MARK, WEAR_MARK};
+use crate::plans::RawRecord;
+use crate::plans::{encode, encode_records, largest, plan_t, raw_records, regular, with_wear};
 
 pub struct Named {
     pub name: String,
@@ -23,6 +24,7 @@ pub fn all() -> Vec<Named> {
         question_1_order(),
         question_1_marks(),
         question_1_clearing_marks(),
+        question_1_wear(),
         suspending_devices(),
         clearing_devices(),
         question_2(),
@@ -36,6 +38,8 @@ pub fn all() -> Vec<Named> {
         question_6_exactness(),
         question_7(),
         question_8(),
+        question_20(),
+        question_20_many(),
         order_of_questions(),
     ];
     groups.into_iter().flatten().collect()
@@ -258,10 +262,6 @@ pub fn question_1_order() -> Vec<Named> {
     let (device, area, sub_area) = (&records[0], &records[1], &records[3]);
     let suspending = RawRecord { mark: SUSPENDING_DEVICE_MARK, ..device.clone() };
     let clearing = RawRecord { mark: CLEARING_DEVICE_MARK, ..device.clone() };
-    let of_records = |name: &str, number: u8, records: &[&RawRecord]| {
-        let bytes = records.iter().flat_map(|record| record.bytes()).collect();
-        of_bytes(name, number, bytes)
-    };
     vec![
         of_records("one record of each kind", 0, &[device, area, sub_area]),
         of_records("area before device", 1, &[area, device, sub_area]),
@@ -284,6 +284,44 @@ pub fn question_1_order() -> Vec<Named> {
         of_records("area behind the sub-areas", 1, &[device, area, sub_area, area]),
         of_records("device and sub-area without area", 2, &[device, sub_area]),
         of_records("area and sub-area without device", 2, &[area, sub_area]),
+    ]
+}
+
+/// Records in this order.
+fn of_records(name: &str, number: u8, records: &[&RawRecord]) -> Named {
+    of_bytes(name, number, records.iter().flat_map(|record| record.bytes()).collect())
+}
+
+/// Wear records are whole, have their mark and stand "after all others".
+pub fn question_1_wear() -> Vec<Named> {
+    let worn = with_wear(plan_t(), &[(0, 7)]);
+    let bytes = encode(&worn);
+    let cut = |length: usize| bytes[..length].to_vec();
+    let records = raw_records(&worn);
+    let (device, area, sub_area, wear) = (&records[0], &records[1], &records[3], &records[5]);
+    let padded = |end: &[u8]| [&bytes, end].concat();
+    vec![
+        of_bytes("wear record, last byte cut", 1, cut(bytes.len() - 1)),
+        of_bytes("wear record cut to its sub-area", 1, cut(bytes.len() - 4)),
+        of_bytes("wear record cut to its mark", 1, cut(bytes.len() - 5)),
+        of_bytes("wear record cut to half its mark", 1, cut(bytes.len() - 6)),
+        of_bytes("a byte behind the wear record", 1, padded(&[0])),
+        of_bytes("a wear mark behind the wear record", 1, padded(&WEAR_MARK)),
+        of_bytes("wear mark 52 57", 1, marked(&worn, 5, [0x52, 0x57])),
+        of_bytes("wear mark 57 51", 1, marked(&worn, 5, [0x57, 0x51])),
+        of_bytes("wear mark 57 53", 1, marked(&worn, 5, [0x57, 0x53])),
+        of_bytes("wear mark 56 52", 1, marked(&worn, 5, [0x56, 0x52])),
+        of_bytes("mark 52 54 behind the sub-areas", 1, marked(&worn, 5, [0x52, 0x54])),
+        of_bytes("sub-area with the mark of a wear record", 1, marked(&plan_t(), 4, WEAR_MARK)),
+        of_records("wear before the sub-areas", 1, &[device, area, wear, sub_area]),
+        of_records("wear before the areas", 1, &[device, wear, area, sub_area]),
+        of_records("wear before all", 1, &[wear, device, area, sub_area]),
+        of_records("wear between sub-areas", 1, &[device, area, sub_area, wear, sub_area]),
+        of_records("area behind wear", 1, &[device, area, sub_area, wear, area]),
+        of_records("device behind wear", 1, &[device, area, sub_area, wear, device]),
+        of_records("one record of each kind with wear", 0, &[device, area, sub_area, wear]),
+        of_records("wear without sub-area", 2, &[device, area, wear]),
+        of_records("only a wear record", 2, &[wear]),
     ]
 }
 
@@ -579,10 +617,66 @@ pub fn question_8() -> Vec<Named> {
     ]
 }
 
+/// Plan T with wear records of these sub-areas and endurances. Its sub-areas are 0 and 1.
+fn worn(name: &str, number: u8, records: &[(u8, u32)]) -> Named {
+    of_plan(name, number, &with_wear(plan_t(), records))
+}
+
+pub fn question_20() -> Vec<Named> {
+    vec![
+        worn("wear 0: 7", 0, &[(0, 7)]),
+        worn("wear 1: 1", 0, &[(1, 1)]),
+        worn("wear 0: 4,294,967,295", 0, &[(0, 4_294_967_295)]),
+        worn("wear 0: 5 and 1: 5", 0, &[(0, 5), (1, 5)]),
+        worn("wear 1: 6 and 0: 5", 0, &[(1, 6), (0, 5)]),
+        worn("wear 2: 5", 20, &[(2, 5)]),
+        worn("wear 255: 5", 20, &[(255, 5)]),
+        worn("wear 0: 5 and 2: 5", 20, &[(0, 5), (2, 5)]),
+        worn("wear 2: 5 and 0: 5", 20, &[(2, 5), (0, 5)]),
+        worn("wear 0: 5 and 0: 6", 20, &[(0, 5), (0, 6)]),
+        worn("wear 1: 5 and 1: 5", 20, &[(1, 5), (1, 5)]),
+        worn("wear 0: 5, 1: 5 and 0: 5", 20, &[(0, 5), (1, 5), (0, 5)]),
+        worn("wear 1: 5, 0: 5 and 0: 5", 20, &[(1, 5), (0, 5), (0, 5)]),
+        worn("wear 1: 0", 20, &[(1, 0)]),
+        worn("wear 0: 5 and 1: 0", 20, &[(0, 5), (1, 0)]),
+        worn("wear 0: 0 and 1: 5", 20, &[(0, 0), (1, 5)]),
+        worn("wear 0: 0 and 0: 5", 20, &[(0, 0), (0, 5)]),
+        worn("wear 0: 5 and 0: 0", 20, &[(0, 5), (0, 0)]),
+        t("shared bytes and wear 9: 0", 8, |p| {
+            p.sub_areas[1].start = 16;
+            *p = with_wear(p.clone(), &[(9, 0)]);
+        }),
+    ]
+}
+
+/// More than 32 wear records pass questions 1 and 2: all of 33 cannot be right.
+pub fn question_20_many() -> Vec<Named> {
+    let each_once: Vec<_> = (0..32).map(|sub_area| (sub_area, 1)).collect();
+    let falling: Vec<_> = each_once.iter().rev().copied().collect();
+    let on_largest = |name: &str, number: u8, records: &[(u8, u32)]| {
+        of_plan(name, number, &with_wear(largest(), records))
+    };
+    vec![
+        on_largest("32 sub-areas with wear", 0, &each_once),
+        on_largest("32 sub-areas with wear, in falling order", 0, &falling),
+        on_largest("the last of 32 with wear", 0, &[(31, 1)]),
+        on_largest("wear of the first unknown of 32", 20, &[(32, 1)]),
+        on_largest(
+            "33 wear records, the last repeated",
+            20,
+            &[&each_once[..], &[(31, 1)]].concat(),
+        ),
+        on_largest("33 wear records, the last unknown", 20, &[&each_once[..], &[(32, 1)]].concat()),
+        on_largest("64 wear records", 20, &[&each_once[..], &falling].concat()),
+        worn("33 times wear 0: 1", 20, &[(0, 1); 33]),
+        worn("257 times wear 0: 1", 20, &[(0, 1); 257]),
+    ]
+}
+
 /// Changes that make plan T fail one question each. They touch different fields, so any two can be
 /// made together. Where records can be chosen, an earlier question's change is in a later record:
 /// a question is asked over the whole plan before the next.
-const FAILURES: [(u8, Change); 7] = [
+const FAILURES: [(u8, Change); 8] = [
     (2, |p| p.areas.resize(9, p.areas[0])),
     (3, |p| p.devices[0].patience = 0),
     (4, |p| p.areas[1].window_start = 15),
@@ -590,6 +684,7 @@ const FAILURES: [(u8, Change); 7] = [
     (6, |p| p.sub_areas[0].device = 1),
     (7, |p| p.areas[0].logical_start = u32::MAX),
     (8, |p| p.sub_areas[1].start = 16),
+    (20, |p| *p = with_wear(p.clone(), &[(9, 0)])),
 ];
 
 /// Every single failure, and every pair, of which the earlier question gives the number.

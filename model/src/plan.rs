@@ -1,5 +1,5 @@
-//! Plans: the records of document 01, "The plan", with the device marks of Req 02 and 03 of document 02,
-//! and loading, questions 1 to 8 of "Questions at the door".
+//! Plans: the records of document 01, "The plan", with the device marks of Req 02 and 03 of document 02 and
+//! the wear records of Req 05, and loading, questions 1 to 8 of "Questions at the door" and 20 of Req 05.
 //!
 //! Sums and products of fields are exact: they are taken in 64 or 128 bits, where none can wrap.
 
@@ -10,6 +10,7 @@ pub const SUSPENDING_DEVICE_MARK: [u8; 2] = [0x44, 0x53];
 pub const CLEARING_DEVICE_MARK: [u8; 2] = [0x44, 0x46];
 pub const AREA_MARK: [u8; 2] = [0x41, 0x52];
 pub const SUB_AREA_MARK: [u8; 2] = [0x53, 0x42];
+pub const WEAR_MARK: [u8; 2] = [0x57, 0x52];
 
 /// Question 2: "1 to 8 areas".
 pub const MOST_AREAS: usize = 8;
@@ -64,12 +65,22 @@ pub struct SubArea {
     pub erase_retries: u8,
 }
 
+/// What a sub-area's sectors are made for: "For each sub-area the plan may gain a record".
+#[derive(Clone, Copy, Debug, PartialEq, Eq)]
+pub struct WearRecord {
+    pub sub_area: u8,
+    /// Cycles per sector.
+    pub endurance: u32,
+}
+
 /// The records of a plan; a record's number is its index within its kind.
 #[derive(Clone, Debug, Default, PartialEq, Eq)]
 pub struct Plan {
     pub devices: Vec<Device>,
     pub areas: Vec<Area>,
     pub sub_areas: Vec<SubArea>,
+    /// "after all others"
+    pub wear_records: Vec<WearRecord>,
 }
 
 impl Device {
@@ -144,6 +155,12 @@ impl Plan {
         let own = self.sub_areas.iter().filter(|s| usize::from(s.area) == area);
         own.map(|s| u128::from(s.size())).sum()
     }
+
+    /// What the wear record of a sub-area says; none if the sub-area has no record.
+    pub fn endurance(&self, sub_area: usize) -> Option<u32> {
+        let mut records = self.wear_records.iter();
+        records.find(|record| usize::from(record.sub_area) == sub_area).map(|r| r.endurance)
+    }
 }
 
 /// A question about a plan of whole records, answered with yes or no.
@@ -153,7 +170,7 @@ type Question = fn(&Plan) -> bool;
 /// over the whole plan before the next.
 pub fn load(bytes: &[u8]) -> Result<Plan, u8> {
     let plan = whole_records(bytes).ok_or(1)?;
-    let questions: [(u8, Question); 7] = [
+    let questions: [(u8, Question); 8] = [
         (2, counts_allowed),
         (3, devices_joined),
         (4, windows_apart),
@@ -161,6 +178,7 @@ pub fn load(bytes: &[u8]) -> Result<Plan, u8> {
         (6, sub_areas_placed),
         (7, areas_formed),
         (8, sub_areas_apart),
+        (20, wear_recorded),
     ];
     for (number, answer) in questions {
         if !answer(&plan) {
@@ -178,13 +196,16 @@ pub fn whole_records(bytes: &[u8]) -> Option<Plan> {
     let mut plan = Plan::default();
     while !reader.rest.is_empty() {
         match reader.take()? {
-            AREA_MARK if plan.sub_areas.is_empty() => plan.areas.push(reader.area()?),
+            WEAR_MARK => plan.wear_records.push(reader.wear_record()?),
+            _ if !plan.wear_records.is_empty() => return None,
             SUB_AREA_MARK => plan.sub_areas.push(reader.sub_area()?),
-            mark if plan.areas.is_empty() && plan.sub_areas.is_empty() => {
+            _ if !plan.sub_areas.is_empty() => return None,
+            AREA_MARK => plan.areas.push(reader.area()?),
+            _ if !plan.areas.is_empty() => return None,
+            mark => {
                 let chip = Chip::marked(mark)?;
                 plan.devices.push(reader.device(chip)?);
             }
-            _ => return None,
         }
     }
     Some(plan)
@@ -272,6 +293,20 @@ pub fn sub_areas_apart(plan: &Plan) -> bool {
     share_no_byte(&spans)
 }
 
+/// Question 20: "Refused: 20 asked after 8 when a wear record names an unknown or repeated sub-area or
+/// endurance 0."
+///
+/// Of more than 32 records two name the same sub-area, or one names none.
+pub fn wear_recorded(plan: &Plan) -> bool {
+    let is_right = |(index, record): (usize, &WearRecord)| {
+        let is_known = usize::from(record.sub_area) < plan.sub_areas.len();
+        let mut earlier = plan.wear_records[..index].iter();
+        let is_repeated = earlier.any(|other| other.sub_area == record.sub_area);
+        is_known && !is_repeated && record.endurance != 0
+    };
+    plan.wear_records.iter().enumerate().all(is_right)
+}
+
 fn is_inside(inner: &Range<u64>, outer: &Range<u64>) -> bool {
     outer.start <= inner.start && inner.end <= outer.end
 }
@@ -340,5 +375,10 @@ impl Reader<'_> {
             write_retries: self.u8()?,
             erase_retries: self.u8()?,
         })
+    }
+
+    /// "mark hex 57 52: sub-area 1 byte, endurance 4 bytes (cycles per sector)".
+    fn wear_record(&mut self) -> Option<WearRecord> {
+        Some(WearRecord { sub_area: self.u8()?, endurance: self.u32()? })
     }
 }

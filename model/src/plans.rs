@@ -13,7 +13,8 @@ pub use small::{crowded, draw_sizes, full, full_that_stores, small};
 pub use valid::valid;
 pub use wounds::{byte_changes, cuts, field_changes, wounded};
 
-use crate::plan::{Area, Chip, Device, Plan, SubArea, AREA_MARK, SUB_AREA_MARK};
+use crate::plan::{Area, Chip, Device, Plan, SubArea, WearRecord};
+use crate::plan::{AREA_MARK, SUB_AREA_MARK, WEAR_MARK};
 use crate::random::Random;
 use std::collections::BTreeSet;
 
@@ -111,12 +112,22 @@ impl From<&SubArea> for RawRecord {
     }
 }
 
+impl From<&WearRecord> for RawRecord {
+    fn from(record: &WearRecord) -> Self {
+        RawRecord {
+            mark: WEAR_MARK,
+            fields: vec![Field::new(record.sub_area, 1), Field::new(record.endurance, 4)],
+        }
+    }
+}
+
 /// The records of a plan in the order of kinds.
 pub fn raw_records(plan: &Plan) -> Vec<RawRecord> {
     let devices = plan.devices.iter().map(RawRecord::from);
     let areas = plan.areas.iter().map(RawRecord::from);
     let sub_areas = plan.sub_areas.iter().map(RawRecord::from);
-    devices.chain(areas).chain(sub_areas).collect()
+    let wear_records = plan.wear_records.iter().map(RawRecord::from);
+    devices.chain(areas).chain(sub_areas).chain(wear_records).collect()
 }
 
 pub fn encode_records(records: &[RawRecord]) -> Vec<u8> {
@@ -162,6 +173,7 @@ pub fn plan_t() -> Plan {
         devices: vec![Device { start: 0, length: 64, patience: 2, chip: Chip::Plain }],
         areas: vec![area(1, 0, 0), area(5, 256, 16)],
         sub_areas: vec![sub_area_0, sub_area_1],
+        wear_records: Vec::new(),
     }
 }
 
@@ -204,6 +216,7 @@ pub fn plan_e(patience: u16) -> Plan {
         devices: vec![Device { start: 0, length: 64, patience, chip: Chip::Suspending }],
         areas: vec![area(1, 0, 0), area(5, 256, 8), area(9, 512, 16)],
         sub_areas: vec![sub_area_0, sub_area_1, sub_area_2],
+        wear_records: Vec::new(),
     }
 }
 
@@ -232,7 +245,18 @@ pub fn plan_w() -> Plan {
         devices: vec![Device { start: 0, length: 96, patience: 3, chip: Chip::Plain }],
         areas: vec![Area { priority: 1, logical_start: 0, window_start: 0, window_length: 48 }],
         sub_areas: vec![sub_area],
+        wear_records: Vec::new(),
     }
+}
+
+/// The plan with wear records of these sub-areas and endurances.
+pub fn with_wear(mut plan: Plan, records: &[(u8, u32)]) -> Plan {
+    let record = |(sub_area, endurance): &(u8, u32)| WearRecord {
+        sub_area: *sub_area,
+        endurance: *endurance,
+    };
+    plan.wear_records = records.iter().map(record).collect();
+    plan
 }
 
 /// The plan with all its devices of one kind.
@@ -340,6 +364,7 @@ pub fn regular(devices: u32, areas: u32, sub_areas: u32) -> Plan {
         devices: (0..devices).map(device).collect(),
         areas: (0..areas).map(area).collect(),
         sub_areas: (0..sub_areas).map(sub_area).collect(),
+        wear_records: Vec::new(),
     }
 }
 

@@ -8,6 +8,8 @@ use std::ops::Range;
 /// A sub-area at its place in the logical space of its area.
 #[derive(Clone, Debug)]
 pub struct Placed<'a> {
+    /// Of the sub-area in the plan.
+    pub number: usize,
     pub sub_area: &'a SubArea,
     pub logical: Range<u64>,
 }
@@ -50,10 +52,11 @@ pub fn index(offset: u64) -> usize {
 /// "An area's logical space begins at its logical start and is its sub-areas joined in plan order."
 pub fn placed(plan: &Plan, area: usize) -> impl Iterator<Item = Placed<'_>> {
     let mut end = u64::from(plan.areas[area].logical_start);
-    plan.sub_areas.iter().filter(move |s| usize::from(s.area) == area).map(move |sub_area| {
+    let numbered = plan.sub_areas.iter().enumerate();
+    numbered.filter(move |(_, s)| usize::from(s.area) == area).map(move |(number, sub_area)| {
         let start = end;
         end = start + sub_area.size();
-        Placed { sub_area, logical: start..end }
+        Placed { number, sub_area, logical: start..end }
     })
 }
 

@@ -335,6 +335,7 @@ fn all_marks() -> Plan {
         devices: chips.map(device).to_vec(),
         areas: (0..6).map(area).collect(),
         sub_areas: (0..6).map(sub_area).collect(),
+        wear_records: Vec::new(),
     }
 }
 

@@ -206,6 +206,7 @@ fn three_stretches() -> Plan {
             sub_area(1, 0, 16, 1, 0),
             sub_area(2, 1, 48, 1, 0),
         ],
+        wear_records: Vec::new(),
     }
 }
 

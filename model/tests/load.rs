@@ -4,6 +4,7 @@ use model::histogram::Histogram;
 use model::named::{self, Named};
 use model::plan::{
     load, sub_areas_apart, whole_records, windows_apart, Area, Chip, Device, Plan, SubArea,
+    WearRecord,
 };
 use model::plans::{any, crowded, encode, full, loose, plan_t, small, valid};
 use model::plans::{some_burst_is_1, some_burst_is_no_power_of_two, some_unit_is_no_power_of_two};
@@ -84,6 +85,14 @@ fn question_7_both_sides() {
 #[test]
 fn question_8_both_sides() {
     check(named::question_8());
+}
+
+/// "at most one per sub-area, after all others"; more than 32 of them are for 20 to refuse.
+#[test]
+fn wear_records_both_sides() {
+    check(named::question_1_wear());
+    check(named::question_20());
+    check(named::question_20_many());
 }
 
 #[test]
@@ -201,6 +210,10 @@ fn fields_are_read_in_order() {
         erase_retries: 36,
     };
     assert_eq!(sub_area, expected);
+
+    let bytes: Vec<u8> = [0x57, 0x52].into_iter().chain(1..=5).collect();
+    let wear_record = whole_records(&bytes).expect("a whole wear record").wear_records[0];
+    assert_eq!(wear_record, WearRecord { sub_area: 1, endurance: 0x05040302 });
 }
 
 #[test]

@@ -85,6 +85,7 @@ fn two_devices() -> Plan {
             fours(1, 0, 16, 4),
             fours(2, 1, 48, 4),
         ],
+        wear_records: Vec::new(),
     }
 }
 
@@ -424,6 +425,7 @@ fn three_areas(priorities: [u16; 3]) -> Plan {
         devices: vec![Device { start: 0, length: 48, patience: 3, chip: Chip::Plain }],
         areas: areas(&priorities),
         sub_areas: vec![fours(0, 0, 0, 4), fours(1, 0, 16, 4), fours(2, 0, 32, 4)],
+        wear_records: Vec::new(),
     }
 }
 
@@ -1085,6 +1087,7 @@ fn queries_of_unknown_areas_give_10() {
         assert_eq!(manager.processed(area), Err(10));
         assert_eq!(manager.job_info(area), Err(10));
         assert_eq!(manager.memory_info(area, 0), Err(10));
+        assert_eq!(manager.wear_info(area, 0), Err(10));
     }
 }
 

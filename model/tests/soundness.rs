@@ -22,7 +22,8 @@ fn every_call() -> Vec<Call> {
         calls.extend([Call::Lock(target), Call::Release(target), Call::Cancel { area }]);
         let queries = [Query::Status, Query::Result, Query::Processed, Query::JobInfo];
         calls.extend(queries.map(|query| Call::Query(query, area)));
-        calls.push(Call::Query(Query::MemoryInfo(address), area));
+        let at_address = [Query::MemoryInfo(address), Query::WearInfo(address)];
+        calls.extend(at_address.map(|query| Call::Query(query, area)));
     }
     calls
 }

@@ -1,9 +1,10 @@
-//! "Queries (status, result, processed length, job info, memory info of 000)": they answer with
-//! their values, or with the number of the first question answered "no".
+//! "Queries (status, result, processed length, job info, memory info of 000)", and wear info of Req 05: they
+//! answer with their values, or with the number of the first question answered "no".
 
 use super::{Manager, Request, Waits};
 use crate::admission;
-use crate::segments;
+use crate::plan::SubArea;
+use crate::segments::{self, Placed};
 
 /// "job info (type, address, length, result, processed length, counts, request's device, physical
 /// address, length, polls)".
@@ -53,6 +54,15 @@ pub struct MemoryInfo {
     pub write_page_burst_size: u32,
     /// Device: "the hardware id is the device number".
     pub hw_id: u32,
+}
+
+/// "the sum of the sub-area there and its charge in millionths of the total endurance (endurance times
+/// sector count), rounded up to a whole millionth"
+#[derive(Clone, Copy, Debug, Default, PartialEq, Eq)]
+pub struct WearInfo {
+    pub sum: u32,
+    /// More than a million behind the endurance.
+    pub charge: u64,
 }
 
 impl From<&Request> for RequestInfo {
@@ -105,9 +115,7 @@ impl Manager {
     }
 
     pub fn memory_info(&self, area: u32, address: u32) -> Result<MemoryInfo, u8> {
-        let area = admission::memory_info(self.sound_plan()?, area, address)?;
-        let placed = segments::holder(&self.plan, area, u64::from(address))
-            .expect("the address is inside the area");
+        let placed = self.sub_area_at(area, address)?;
         let sub_area = placed.sub_area;
         Ok(MemoryInfo {
             logical_start_address: narrow(placed.logical.start),
@@ -122,6 +130,31 @@ impl Manager {
             hw_id: u32::from(sub_area.device),
         })
     }
+
+    /// "A sub-area without record has charge 0": it has a sum all the same.
+    pub fn wear_info(&self, area: u32, address: u32) -> Result<WearInfo, u8> {
+        let placed = self.sub_area_at(area, address)?;
+        let sum = self.wear[placed.number];
+        let endurance = self.plan.endurance(placed.number);
+        let charge = endurance.map_or(0, |endurance| charge(sum, endurance, placed.sub_area));
+        Ok(WearInfo { sum, charge })
+    }
+
+    /// What memory info and wear info are asked of.
+    fn sub_area_at(&self, area: u32, address: u32) -> Result<Placed<'_>, u8> {
+        let area = admission::memory_info(self.sound_plan()?, area, address)?;
+        let placed = segments::holder(&self.plan, area, u64::from(address));
+        Ok(placed.expect("the address is inside the area"))
+    }
+}
+
+/// The least whole number of millionths of the total that is not below the sum.
+fn charge(sum: u32, endurance: u32, sub_area: &SubArea) -> u64 {
+    let total = u128::from(endurance) * u128::from(sub_area.sector_count);
+    let worn = u128::from(sum) * 1_000_000;
+    let whole = worn / total;
+    let charge = if whole * total < worn { whole + 1 } else { whole };
+    u64::try_from(charge).expect("at most a million times a sum of 32 bits")
 }
 
 /// Addresses and lengths inside an area fit: question 7 keeps its end within 32 bits.

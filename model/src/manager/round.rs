@@ -2,11 +2,11 @@
 //! with nothing running starts something, or an erase gives way or resumes, then the waiting jobs
 //! count.
 
-use super::{DeviceState, Manager, Need, Request, Wait};
+use super::{AreaState, DeviceState, Manager, Need, Request, Wait};
 use crate::admission;
 use crate::jobs::{Answer, JobResult, JobType, Operation};
 use crate::plan::MOST_AREAS;
-use crate::segments::index;
+use crate::segments::{self, index};
 use std::ops::Range;
 
 /// How a request ends.
@@ -72,6 +72,9 @@ impl Manager {
 
     fn request_done(&mut self, request: &Request, image: &mut [u8], store: &mut [u8]) {
         let is_consistent = self.perform(request, image, store);
+        if request.operation == Operation::Erase {
+            self.add_wear(request);
+        }
         let state = &mut self.areas[request.area];
         if !is_consistent {
             return state.end(JobResult::Inconsistent);
@@ -82,6 +85,19 @@ impl Manager {
             Some(need) if !is_cancelled => self.areas[request.area].retries_left = need.retries(),
             _ => self.areas[request.area].end(JobResult::Ok),
         }
+    }
+
+    /// "Each done erase adds the number of sectors in its piece to the sub-area's wear sum, which sticks at
+    /// 4,294,967,295": one of a cancelled job too, and one that was suspended, once.
+    fn add_wear(&mut self, erase: &Request) {
+        let AreaState { job: Some(job), processed, .. } = self.areas[erase.area] else {
+            unreachable!("a request is of a job");
+        };
+        let start = job.target.addresses().start + processed;
+        let placed = segments::holder(&self.plan, erase.area, start).expect("a piece has bytes");
+        let sectors = erase.piece.length / u64::from(placed.sub_area.sector);
+        let sum = &mut self.wear[placed.number];
+        *sum = sum.saturating_add(u32::try_from(sectors).expect("inside the image"));
     }
 
     /// What a done request does to image and store, and whether it found what it should.

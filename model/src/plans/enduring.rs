@@ -37,6 +37,7 @@ pub fn enduring(devices: u32, areas: u32, sub_areas: u32) -> Plan {
         devices: (0..devices).map(device).collect(),
         areas: (0..areas).map(area).collect(),
         sub_areas,
+        wear_records: Vec::new(),
     }
 }
 
