@@ -5,13 +5,15 @@ mod enduring;
 mod loose;
 mod small;
 mod valid;
+mod wear;
 mod wounds;
 
 pub use enduring::enduring;
 pub use loose::loose;
 pub use small::{crowded, draw_sizes, full, full_that_stores, small};
 pub use valid::valid;
-pub use wounds::{byte_changes, cuts, field_changes, wounded};
+pub use wear::draw_wear;
+pub use wounds::{byte_changes, cuts, field_changes, wounded, wounded_wear};
 
 use crate::plan::{Area, Chip, Device, Plan, SubArea, WearRecord};
 use crate::plan::{AREA_MARK, SUB_AREA_MARK, WEAR_MARK};
@@ -373,6 +375,11 @@ pub fn largest() -> Plan {
     regular(4, 8, 32)
 }
 
+/// Has every sub-area of the plan a wear record?
+pub fn every_sub_area_has_a_wear_record(plan: &Plan) -> bool {
+    (0..plan.sub_areas.len()).all(|sub_area| plan.endurance(sub_area).is_some())
+}
+
 /// A plan drawn from the mix of all kinds made here. The kinds are weighed so that every question
 /// answers "no" often.
 pub fn any(random: &mut Random) -> Vec<u8> {
@@ -400,7 +407,9 @@ fn noise(random: &mut Random) -> Vec<u8> {
     let mut bytes = Vec::new();
     for _ in 0..random.below(4) {
         let device = (random.pick(&Chip::ALL).mark(), 10);
-        let (mark, width) = random.pick(&[device, device, (AREA_MARK, 14), (SUB_AREA_MARK, 36)]);
+        let others = [(AREA_MARK, 14), (SUB_AREA_MARK, 36), (WEAR_MARK, 5)];
+        let other = random.pick(&others);
+        let (mark, width) = random.pick(&[device, other]);
         bytes.extend(mark);
         bytes.extend((0..width).map(|_| random.byte()));
     }

@@ -2,7 +2,7 @@
 //! one subject.
 
 use crate::plan;
-use crate::plans::{any, encode, largest, plan_t, valid};
+use crate::plans::{any, encode, largest, plan_t, small, valid, wounded_wear};
 use crate::random::Random;
 use crate::segments::index;
 use crate::session::{BENCH_SUM_LIMIT, PLAN_LIMIT, STORE_LENGTH};
@@ -136,6 +136,10 @@ fn doubtful_plan(random: &mut Random) -> Vec<u8> {
             let mut bytes = encode(&largest()).repeat(4);
             bytes.truncate(PLAN_LIMIT + random.index(2));
             bytes
+        }
+        2 => {
+            let plan = small(random);
+            wounded_wear(random, &plan)
         }
         _ => any(random),
     }

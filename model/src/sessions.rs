@@ -17,7 +17,7 @@ pub use calls::{steps, Memory, Step};
 pub use lines::{lines, lines_of, text, Line};
 
 use crate::plan::Plan;
-use crate::plans::{draw_marks, draw_sizes, full, largest, small, valid};
+use crate::plans::{draw_marks, draw_sizes, draw_wear, full, largest, small, valid};
 use crate::plans::{plan_e, plan_f, plan_t, plan_v, plan_w};
 use crate::random::Random;
 use crate::session::BENCH_SUM_LIMIT;
@@ -32,6 +32,7 @@ pub fn bench_plan(random: &mut Random) -> Plan {
                 draw_sizes(random, &mut plan);
             }
             draw_marks(random, &mut plan);
+            draw_wear(random, &mut plan);
             plan
         }
         2 => medium(random),
@@ -40,14 +41,19 @@ pub fn bench_plan(random: &mut Random) -> Plan {
     }
 }
 
+/// As they are in half of the cases, with wear records in the others.
 fn named(random: &mut Random) -> Plan {
-    match random.below(6) {
+    let mut plan = match random.below(6) {
         0 => plan_t(),
         1 => plan_v(),
         2 => plan_w(),
         3 => plan_e(random.pick(&[2, 3, 5])),
         _ => plan_f(random.pick(&[2, 3, 5])),
+    };
+    if random.one_in(2) {
+        draw_wear(random, &mut plan);
     }
+    plan
 }
 
 /// A random valid plan on the bench.

@@ -14,11 +14,15 @@ pub type Shows<'a> = dyn FnMut(&Script) -> bool + 'a;
 /// Each time over, numbers get nearer to the smallest by half: so often is enough for most.
 const MOST_PASSES: u32 = 12;
 
+/// Of so many lines at most every selection is tried.
+const FEW_LINES: usize = 10;
+
 pub fn smallest(script: Script, shows: &mut Shows) -> Script {
     let mut best = script;
     for _ in 0..MOST_PASSES {
         let before = best.clone();
         best = with_fewer_lines(best, shows);
+        best = with_fewest_lines(best, shows);
         best = with_fewer_records(best, shows);
         best = with_plainer_marks(best, shows);
         best = with_plainer_plan(best, shows);
@@ -60,26 +64,64 @@ fn with_fewer_lines(mut best: Script, shows: &mut Shows) -> Script {
     best
 }
 
-/// Drops areas with all that is theirs, the last device, and single sub-areas, and moves areas to
-/// logical address 0.
-fn with_fewer_records(mut best: Script, shows: &mut Shows) -> Script {
-    let counts = |script: &Script| {
-        plan::whole_records(&script.plan)
-            .map_or((0, 0, 0), |plan| (plan.areas.len(), plan.devices.len(), plan.sub_areas.len()))
-    };
-    for area in (0..counts(&best).0).rev() {
-        best = better_plan(best, shows, |tried, plan| drop_area(tried, plan, area));
+/// Of few lines the fewest that will do: lines that only make each other wait go together or not at all.
+fn with_fewest_lines(best: Script, shows: &mut Shows) -> Script {
+    if best.lines.len() > FEW_LINES {
+        return best;
     }
-    for area in 0..counts(&best).0 {
-        best = better_plan(best, shows, |tried, plan| move_area(tried, plan, area));
-    }
-    for _ in 0..counts(&best).1 {
-        best = better_plan(best, shows, drop_last_device);
-    }
-    for sub_area in (0..counts(&best).2).rev() {
-        best = better_plan(best, shows, |tried, plan| drop_sub_area(tried, plan, sub_area));
+    let mut selections: Vec<u32> = (0..1 << best.lines.len()).collect();
+    selections.sort_by_key(|selection| selection.count_ones());
+    for selection in selections {
+        let mut tried = best.clone();
+        let mut bits = (0..).map(|line| selection >> line & 1);
+        tried.lines.retain(|_| bits.next() == Some(1));
+        if tried != best && shows(&tried) {
+            return tried;
+        }
     }
     best
+}
+
+/// Drops areas with all that is theirs, the last device, single sub-areas and wear records, and moves areas
+/// to logical address 0.
+fn with_fewer_records(mut best: Script, shows: &mut Shows) -> Script {
+    for area in (0..count(&best, |plan| plan.areas.len())).rev() {
+        best = better_plan(best, shows, |tried, plan| drop_area(tried, plan, area));
+    }
+    for area in 0..count(&best, |plan| plan.areas.len()) {
+        best = better_plan(best, shows, |tried, plan| move_area(tried, plan, area));
+    }
+    for _ in 0..count(&best, |plan| plan.devices.len()) {
+        best = better_plan(best, shows, drop_last_device);
+    }
+    for sub_area in (0..count(&best, |plan| plan.sub_areas.len())).rev() {
+        best = without_sub_area(best, shows, sub_area);
+    }
+    for record in (0..count(&best, |plan| plan.wear_records.len())).rev() {
+        best = better_plan(best, shows, |_, plan| {
+            plan.wear_records.remove(record);
+        });
+    }
+    best
+}
+
+/// How many records there are of a kind; none where they are not whole.
+fn count(script: &Script, of_kind: impl Fn(&Plan) -> usize) -> usize {
+    plan::whole_records(&script.plan).map_or(0, |plan| of_kind(&plan))
+}
+
+/// Drops the other sub-areas, with their wear records; the numbers of those behind them move down.
+fn keep_sub_areas(plan: &mut Plan, keeps: impl Fn(usize, &SubArea) -> bool) {
+    let numbered = plan.sub_areas.iter().enumerate();
+    let kept: Vec<_> = numbered.map(|(number, sub_area)| keeps(number, sub_area)).collect();
+    let is_dropped = |number: u8| kept.get(usize::from(number)) == Some(&false);
+    plan.wear_records.retain(|record| !is_dropped(record.sub_area));
+    for record in &mut plan.wear_records {
+        let dropped = (0..record.sub_area).filter(|number| is_dropped(*number));
+        record.sub_area -= dropped.map(|_| 1).sum::<u8>();
+    }
+    let mut kept = kept.into_iter();
+    plan.sub_areas.retain(|_| kept.next() == Some(true));
 }
 
 /// Tries a change of the records. Memory of the lengths that the bench lends keeps to them.
@@ -108,7 +150,7 @@ fn set_plan(script: &mut Script, plan: Vec<u8>) {
 /// The areas above it move down, in the plan and in the lines.
 fn drop_area(script: &mut Script, plan: &mut Plan, area: usize) {
     plan.areas.remove(area);
-    plan.sub_areas.retain(|sub_area| usize::from(sub_area.area) != area);
+    keep_sub_areas(plan, |_, sub_area| usize::from(sub_area.area) != area);
     for sub_area in plan.sub_areas.iter_mut().filter(|s| usize::from(s.area) > area) {
         sub_area.area -= 1;
     }
@@ -131,12 +173,30 @@ fn move_area(script: &mut Script, plan: &mut Plan, area: usize) {
     });
 }
 
+/// Where the end of an area shows the difference, as question 7 asks for it, the area keeps its end.
+fn without_sub_area(best: Script, shows: &mut Shows, sub_area: usize) -> Script {
+    let tried =
+        better_plan(best.clone(), shows, |tried, plan| drop_sub_area(tried, plan, sub_area));
+    if tried != best {
+        return tried;
+    }
+    better_plan(best, shows, |tried, plan| {
+        let SubArea { area, sector, sector_count, .. } = plan.sub_areas[sub_area];
+        drop_sub_area(tried, plan, sub_area);
+        if let Some(area) = plan.areas.get_mut(usize::from(area)) {
+            let size = sector.saturating_mul(sector_count);
+            area.logical_start = area.logical_start.saturating_add(size);
+        }
+    })
+}
+
 /// What lies behind it in its area moves down, with the calls on it.
 fn drop_sub_area(script: &mut Script, plan: &mut Plan, sub_area: usize) {
     if sub_area >= plan.sub_areas.len() {
         return;
     }
-    let dropped = plan.sub_areas.remove(sub_area);
+    let dropped = plan.sub_areas[sub_area];
+    keep_sub_areas(plan, |number, _| number != sub_area);
     let area = usize::from(dropped.area);
     let earlier = plan.sub_areas[..sub_area].iter().filter(|s| s.area == dropped.area);
     let offset: u64 = earlier.map(SubArea::size).sum();
@@ -173,7 +233,7 @@ fn change_calls(script: &mut Script, change: impl Fn(&mut [u32])) {
 fn drop_last_device(script: &mut Script, plan: &mut Plan) {
     plan.devices.pop();
     let count = plan.devices.len();
-    plan.sub_areas.retain(|sub_area| usize::from(sub_area.device) < count);
+    keep_sub_areas(plan, |_, sub_area| usize::from(sub_area.device) < count);
     for line in &mut script.lines {
         let mut fields = fields_of(line);
         if fields[0] == b"0" && fields.len() == count + 2 {

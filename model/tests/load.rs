@@ -3,10 +3,11 @@
 use model::histogram::Histogram;
 use model::named::{self, Named};
 use model::plan::{
-    load, sub_areas_apart, whole_records, windows_apart, Area, Chip, Device, Plan, SubArea,
-    WearRecord,
+    load, sub_areas_apart, wear_recorded, whole_records, windows_apart, Area, Chip, Device, Plan,
+    SubArea, WearRecord,
 };
-use model::plans::{any, crowded, encode, full, loose, plan_t, small, valid};
+use model::plans::{any, crowded, encode, every_sub_area_has_a_wear_record};
+use model::plans::{full, loose, plan_t, small, valid, wounded_wear};
 use model::plans::{some_burst_is_1, some_burst_is_no_power_of_two, some_unit_is_no_power_of_two};
 use model::random::Random;
 use model::sessions::{bench_plan, busy_plan};
@@ -210,7 +211,10 @@ fn fields_are_read_in_order() {
         erase_retries: 36,
     };
     assert_eq!(sub_area, expected);
+}
 
+#[test]
+fn fields_of_wear_records_are_read_in_order() {
     let bytes: Vec<u8> = [0x57, 0x52].into_iter().chain(1..=5).collect();
     let wear_record = whole_records(&bytes).expect("a whole wear record").wear_records[0];
     assert_eq!(wear_record, WearRecord { sub_area: 1, endurance: 0x05040302 });
@@ -229,7 +233,7 @@ fn valid_plans_load_to_themselves() {
 type Shows = fn(&Plan) -> bool;
 
 /// The extremes a valid plan can show; each must come up often in the random ones.
-const EXTREMES: [(&str, Shows); 19] = [
+const EXTREMES: [(&str, Shows); 24] = [
     ("no device that can suspend", |p| p.devices.iter().all(|d| !d.chip.can_suspend())),
     ("every device can suspend", |p| p.devices.iter().all(|d| d.chip.can_suspend())),
     ("every device only clears bits", |p| p.devices.iter().all(|d| d.chip.only_clears())),
@@ -263,6 +267,11 @@ const EXTREMES: [(&str, Shows); 19] = [
         (0..p.areas.len()).any(|n| end(n) == 4_294_967_295)
     }),
     ("equal priorities", |p| p.areas.windows(2).any(|a| a[0].priority == a[1].priority)),
+    ("32 wear records", |p| p.wear_records.len() == 32),
+    ("wear records that fall", |p| !p.wear_records.is_sorted_by_key(|r| r.sub_area)),
+    ("a wear record of sub-area 31", |p| p.wear_records.iter().any(|r| r.sub_area == 31)),
+    ("endurance 1", |p| p.wear_records.iter().any(|r| r.endurance == 1)),
+    ("endurance 4,294,967,295", |p| p.wear_records.iter().any(|r| r.endurance == 4_294_967_295)),
 ];
 
 fn mark_count(plan: &Plan) -> usize {
@@ -296,22 +305,23 @@ fn every_mark_is_drawn_often() {
 /// The bytes of a random plan.
 type Draw = fn(&mut Random) -> Vec<u8>;
 
+const MIXES: [(&str, Draw); 8] = [
+    ("any", any),
+    ("valid", |random| encode(&valid(random))),
+    ("small", |random| encode(&small(random))),
+    ("crowded", |random| encode(&crowded(random))),
+    ("full", |random| encode(&full(random))),
+    ("loose", |random| encode(&loose(random))),
+    ("bench", |random| encode(&bench_plan(random))),
+    ("busy", |random| encode(&busy_plan(random))),
+];
+
 /// In every mix a third or more of the plans that are accepted have a burst that is no power of two, and a
 /// third or more such a unit; on a tenth or more every burst is a power of two, and bursts of 1 occur.
 #[test]
 fn sizes_of_both_kinds_are_drawn_often() {
-    let mixes: [(&str, Draw); 8] = [
-        ("any", any),
-        ("valid", |random| encode(&valid(random))),
-        ("small", |random| encode(&small(random))),
-        ("crowded", |random| encode(&crowded(random))),
-        ("full", |random| encode(&full(random))),
-        ("loose", |random| encode(&loose(random))),
-        ("bench", |random| encode(&bench_plan(random))),
-        ("busy", |random| encode(&busy_plan(random))),
-    ];
     let mut random = Random::new(8);
-    for (name, draw) in mixes {
+    for (name, draw) in MIXES {
         let accepted = std::iter::repeat_with(|| load(&draw(&mut random)).ok()).flatten();
         let plans: Vec<_> = accepted.take(1_000).collect();
         let count = |holds: Shows| plans.iter().filter(|plan| holds(plan)).count();
@@ -322,6 +332,22 @@ fn sizes_of_both_kinds_are_drawn_often() {
         println!("bursts and units that are no powers, power bursts, bursts of 1, {counts}");
         assert!(3 * bursts.min(units) >= plans.len(), "{counts}");
         assert!(10 * powers >= plans.len() && ones >= 100, "{counts}");
+    }
+}
+
+/// In every mix a tenth or more of the plans that are accepted have no wear record, a tenth or more one of
+/// every sub-area, and a quarter or more of some.
+#[test]
+fn wear_records_are_drawn_often() {
+    let mut random = Random::new(9);
+    for (name, draw) in MIXES {
+        let accepted = std::iter::repeat_with(|| load(&draw(&mut random)).ok()).flatten();
+        let plans: Vec<_> = accepted.take(1_000).collect();
+        let none = plans.iter().filter(|plan| plan.wear_records.is_empty()).count();
+        let all = plans.iter().filter(|plan| every_sub_area_has_a_wear_record(plan)).count();
+        let some = plans.len() - none - all;
+        println!("{name}: of no sub-area {none}, of some {some}, of all {all}");
+        assert!(none >= 100 && some >= 250 && all >= 100, "{name}: {none} {some} {all}");
     }
 }
 
@@ -343,7 +369,7 @@ fn every_number_comes_up_often() {
         histogram.add(number(&any(&mut random)));
     }
     println!("{histogram}");
-    for number in 0..=8 {
+    for number in (0..=8).chain([20]) {
         let count = histogram.count(number);
         assert!(count >= 4_000, "number {number}: only {count}");
     }
@@ -381,6 +407,37 @@ fn take_all(mut span: std::ops::Range<u64>, taken: &mut [bool]) -> bool {
     })
 }
 
+/// Question 20 decided another way: each record takes the sub-area that it names from a list of those
+/// without record.
+fn wear_recorded_by_taking(plan: &Plan) -> bool {
+    let mut without: BTreeSet<_> = (0..plan.sub_areas.len()).collect();
+    let mut records = plan.wear_records.iter();
+    records.all(|record| without.remove(&record.sub_area.into()) && record.endurance > 0)
+}
+
+#[test]
+fn wear_recorded_agrees_with_taking_sub_areas() {
+    let mut random = Random::new(10);
+    let mut answers = [0; 2];
+    for _ in 0..40_000 {
+        let plan = match random.below(4) {
+            0 => encode(&loose(&mut random)),
+            1 => {
+                let plan = small(&mut random);
+                wounded_wear(&mut random, &plan)
+            }
+            _ => any(&mut random),
+        };
+        let Some(plan) = whole_records(&plan).filter(|plan| !plan.wear_records.is_empty()) else {
+            continue;
+        };
+        let answer = wear_recorded_by_taking(&plan);
+        assert_eq!(wear_recorded(&plan), answer, "{plan:?}");
+        answers[usize::from(answer)] += 1;
+    }
+    assert!(answers.iter().all(|count| *count >= 1_000), "{answers:?}");
+}
+
 #[test]
 fn windows_apart_agrees_with_marking_bytes() {
     let mut random = Random::new(5);
@@ -402,7 +459,7 @@ fn sub_areas_apart_agrees_with_marking_bytes() {
     let mut answers = [0; 2];
     for _ in 0..40_000 {
         let plan = if random.one_in(4) { valid(&mut random) } else { loose(&mut random) };
-        let reaches_question_8 = matches!(number(&encode(&plan)), 0 | 8);
+        let reaches_question_8 = matches!(number(&encode(&plan)), 0 | 8 | 20);
         if !reaches_question_8 || plan.device_sum() > 65_536 {
             continue;
         }

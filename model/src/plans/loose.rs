@@ -5,6 +5,7 @@
 //! Numbers are small, so that records meet: windows and sub-areas share bytes, touch or miss by
 //! one.
 
+use super::wear::draw_loose_wear;
 use super::{draw_marks, low_byte, Choice, BETWEEN_POWERS};
 use crate::plan::{Area, Chip, Device, Plan, SubArea, LOGICAL_LIMIT, WINDOW_LIMIT};
 use crate::random::Random;
@@ -35,6 +36,7 @@ pub fn loose(random: &mut Random) -> Plan {
         plan.sub_areas.push(sub_area);
     }
     draw_marks(random, &mut plan);
+    draw_loose_wear(random, &mut plan);
     plan
 }
 

@@ -2,7 +2,7 @@
 //! few rounds jobs end, requests are dropped and tried again, and areas stand in each other's way.
 
 use super::valid::{divisor, spread_over_areas};
-use super::{draw_marks, low_byte, resized, Choice, BETWEEN_POWERS};
+use super::{draw_marks, draw_wear, low_byte, resized, Choice, BETWEEN_POWERS};
 use crate::plan::{Area, Chip, Device, Plan, SubArea, LOGICAL_LIMIT};
 use crate::random::Random;
 
@@ -51,8 +51,8 @@ pub fn full(random: &mut Random) -> Plan {
     of_counts(random, 4, 8, 32)
 }
 
-/// The same without chips that only clear bits. The benchmark's sessions run on it: they are to stay
-/// as they are.
+/// The same without chips that only clear bits and without wear records. The benchmark's sessions run on
+/// it: they are to stay as they are.
 pub fn full_that_stores(random: &mut Random) -> Plan {
     let mut plan = unmarked(random, &ANY_SIZES, [4, 8, 32]);
     for device in &mut plan.devices {
@@ -65,6 +65,7 @@ fn of_counts(random: &mut Random, device_count: u32, area_count: u32, sub_area_c
     let choice = if random.one_in(BETWEEN_POWERS) { &POWERS_OF_TWO } else { &ANY_SIZES };
     let mut plan = unmarked(random, choice, [device_count, area_count, sub_area_count]);
     draw_marks(random, &mut plan);
+    draw_wear(random, &mut plan);
     plan
 }
 

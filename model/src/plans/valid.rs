@@ -1,7 +1,7 @@
 //! Random plans that every question accepts. The draws favour the limits: they are where a wrong
 //! comparison shows.
 
-use super::{draw_marks, low_byte, low_two_bytes, BETWEEN_POWERS};
+use super::{draw_marks, draw_wear, low_byte, low_two_bytes, BETWEEN_POWERS};
 use crate::plan::{Area, Chip, Device, Plan, SubArea};
 use crate::plan::{DEVICE_SUM_LIMIT, LOGICAL_LIMIT, WINDOW_LIMIT};
 use crate::random::Random;
@@ -25,6 +25,7 @@ pub fn valid(random: &mut Random) -> Plan {
     spread_over_areas(random, area_count, &mut plan.sub_areas);
     plan.areas = areas(random, area_count, &plan);
     draw_marks(random, &mut plan);
+    draw_wear(random, &mut plan);
     plan
 }
 

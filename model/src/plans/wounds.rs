@@ -1,7 +1,8 @@
 //! Wounds: changes to a plan that may or may not make a question answer "no".
 
+use super::wear::wound_wear;
 use super::{encode, encode_records, raw_records, Field, RawRecord};
-use crate::plan::{Chip, Plan, AREA_MARK, SUB_AREA_MARK};
+use crate::plan::{Chip, Plan, AREA_MARK, SUB_AREA_MARK, WEAR_MARK};
 use crate::random::Random;
 
 /// What a wound makes of a field. At the ends of a field's range "one more" and "one less" go round
@@ -58,13 +59,21 @@ pub fn wounded(random: &mut Random, plan: &Plan, wounds: u32) -> Vec<u8> {
     bytes
 }
 
-/// Half of these wounds change a field, the others drop, double, swap or mark records.
+/// The bytes of a plan with one wound of its wear records.
+pub fn wounded_wear(random: &mut Random, plan: &Plan) -> Vec<u8> {
+    let mut records = raw_records(plan);
+    wound_wear(random, &mut records);
+    encode_records(&records)
+}
+
+/// Half of these wounds or so change a field, the others drop, double, swap or mark records or are of the
+/// wear records.
 fn wound_records(random: &mut Random, records: &mut Vec<RawRecord>) {
     if records.is_empty() {
         return;
     }
     let (one, other) = (random.index(records.len()), random.index(records.len()));
-    match random.below(10) {
+    match random.below(12) {
         0 => {
             records.remove(one);
         }
@@ -72,6 +81,7 @@ fn wound_records(random: &mut Random, records: &mut Vec<RawRecord>) {
         2 => records.insert(other, records[one].clone()),
         3 => records.swap(one, other),
         4 => records[one].mark = another_mark(random, records[one].mark),
+        5 => wound_wear(random, records),
         _ => wound_field(random, &mut records[one]),
     }
 }
@@ -88,7 +98,7 @@ fn another_mark(random: &mut Random, [first, second]: [u8; 2]) -> [u8; 2] {
     match random.below(5) {
         0 => {
             let device = random.pick(&Chip::ALL).mark();
-            random.pick(&[device, device, AREA_MARK, SUB_AREA_MARK])
+            random.pick(&[device, device, AREA_MARK, SUB_AREA_MARK, WEAR_MARK])
         }
         1 => [second, first],
         2 => [first, random.pick(&[0x56, 0x53, 0x46, 0x54, 0x52, 0x4C, 0x42])],

@@ -189,8 +189,9 @@ fn change(random: &mut Random, plan: &Plan) -> Step {
 fn query(random: &mut Random, plan: &Plan) -> Call {
     let Target { area, address, .. } = target(random, plan, |_| 1);
     let queries = [Query::Status, Query::Result, Query::Processed, Query::JobInfo];
-    match random.below(5) {
+    match random.below(10) {
         0 => Call::Query(Query::MemoryInfo(address), area),
+        1 => Call::Query(Query::WearInfo(address), area),
         _ => Call::Query(random.pick(&queries), area),
     }
 }
