@@ -8,10 +8,12 @@ mod clearing;
 mod memory;
 mod suspensions;
 mod tally;
+mod wear;
 
 pub use clearing::Clearing;
 pub use suspensions::Suspensions;
 pub use tally::Tally;
+pub use wear::Wear;
 
 use crate::admission;
 use crate::calls::{Call, Query};
@@ -32,6 +34,8 @@ pub struct Trial {
     store: Vec<u8>,
     /// The result that each area owes by the rules.
     results: Vec<JobResult>,
+    /// Of each area: has its request, which runs again, been suspended?
+    resumed: Vec<bool>,
 }
 
 /// What does not hold.
@@ -55,6 +59,7 @@ impl Trial {
             image,
             store,
             results: vec![JobResult::Ok; plan.areas.len()],
+            resumed: vec![false; plan.areas.len()],
         }
     }
 
@@ -101,7 +106,9 @@ impl Trial {
             tally.add_equals(&self.plan, &before, &self.book);
             tally.suspensions.add_round(&self.plan, &before, &self.book);
         }
+        self.note_resumed(&before, &fates);
         self.check_devices()?;
+        self.check_wear()?;
         self.check_order()
     }
 
@@ -120,6 +127,9 @@ impl Trial {
         self.book = book;
         tally.add_call(call, number);
         ensure(number == owed, || format!("number {number}, the book has {owed}"))?;
+        if let (0, Call::Query(Query::WearInfo(address), area)) = (number, call) {
+            self.note_asked(*area, *address, &mut tally.wear);
+        }
         let may_change = number == 0 && !matches!(call, Call::Query(..));
         ensure(may_change || self.manager == before, || "demand 1: the manager changed".into())
     }
@@ -168,6 +178,8 @@ impl Trial {
         ensure(store == owed_store, || "demand 1: the store is not as owed".into())?;
         ensure(number == 0 || self.manager == before, || "demand 1: the manager changed".into())?;
         tally.clearing.add_round(&self.round_from(&book_before, &image), &fates);
+        self.note_erases(answers, &fates, &mut tally.wear);
+        self.note_stuck(&book_before.wear(), &mut tally.wear);
         memory::give_back(&mut self.image, &image);
         memory::give_back(&mut self.store, &store);
         Ok(fates)
@@ -196,6 +208,19 @@ impl Trial {
             // The last piece is done, or a lock was given.
             Some(Finished { outcome: Outcome::Done, .. }) | None => JobResult::Ok,
         };
+    }
+
+    /// Which requests run again that were suspended, until they end.
+    fn note_resumed(&mut self, before: &WaitBook, fates: &[Fate]) {
+        for fate in fates {
+            if let Fate::Ends(finished) = fate {
+                self.resumed[finished.area] = false;
+            }
+        }
+        for (area, resumed) in self.resumed.iter_mut().enumerate() {
+            let is_suspended = |book: &WaitBook| book.entry(area).suspended.is_some();
+            *resumed |= is_suspended(before) && !is_suspended(&self.book);
+        }
     }
 
     /// Counts jobs that ended at a bound.

@@ -1,19 +1,21 @@
 //! "The wait book": document 01's definition of what the four counts of demand 3 must be, over the
 //! plan and the arguments of the calls, with the image and store that a round is lent. It keeps the
-//! order of Req 01 of document 02 as well, and the suspended erases of Req 02.
+//! order of Req 01 of document 02 as well, the suspended erases of Req 02 and the done ones of Req 05.
 //!
 //! The book reads no field of the manager and no answer of it. With the manager it shares the terms
 //! of [`crate::jobs`], the cutting of jobs into pieces and the questions at the door, which it asks
 //! of its own state. Everything else is written a second time and in another style: every call is a
 //! function from an old book to the next, a round first says what becomes of every device and then
 //! makes every entry anew, jobs go through a list of their pieces instead of measuring the rest of
-//! their range, the order of acceptance is a list of areas instead of a count, and a suspended erase is
-//! kept with its area instead of its device.
+//! their range, the order of acceptance is a list of areas instead of a count, a suspended erase is kept
+//! with its area instead of its device, and wear is a list of erases instead of a sum.
 
 mod bounds;
 mod round;
+mod wear;
 
 pub use round::{Fate, Finished, Outcome};
+pub use wear::Erased;
 
 use crate::admission::{self, Standing};
 use crate::jobs::{Job, JobType, Operation, Target};
@@ -29,6 +31,8 @@ pub struct WaitBook {
     /// The pending areas, the earliest accepted first: "The state and the wait book therefore keep
     /// the order in which pending jobs were accepted."
     order: Vec<usize>,
+    /// Of all jobs, in order: "the done erases in the history".
+    erased: Vec<Erased>,
 }
 
 /// "for each device what runs there with its polls, or the area it is locked for"
@@ -156,6 +160,7 @@ impl WaitBook {
             stations: plan.devices.iter().map(|_| Station::Nothing).collect(),
             entries: plan.areas.iter().map(|_| Entry::blank()).collect(),
             order: Vec::new(),
+            erased: Vec::new(),
         }
     }
 

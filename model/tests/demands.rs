@@ -4,7 +4,7 @@ use model::calls::Call;
 use model::demands::{Tally, Trial};
 use model::jobs::{Answer, Operation, Target};
 use model::plan::{Area, Chip, Device, Plan, SubArea};
-use model::plans::{draw_marks, equals_meet, largest, priority_count, small, valid};
+use model::plans::{draw_marks, draw_wear, equals_meet, largest, priority_count, small, valid};
 use model::plans::{plan_e, plan_f, plan_t, plan_v, plan_w};
 use model::random::Random;
 use model::sessions::{busy_calls, busy_plan, steps, Step};
@@ -22,13 +22,20 @@ fn memory(random: &mut Random, length: usize) -> Vec<u8> {
     }
 }
 
-/// A trial with random memory; the store goes beyond the furthest window end.
+/// A trial with random memory; the store goes beyond the furthest window end. One in four begins worn out.
 fn trial(random: &mut Random, plan: &Plan) -> Trial {
     let sum = usize::try_from(plan.device_sum()).expect("an image");
     let end = plan.areas.iter().map(|area| area.window().end).max().expect("an area");
     let store_length = usize::try_from(end).expect("a store") + random.index(4) + 1;
     let (image, store) = (memory(random, sum), memory(random, store_length));
-    Trial::of(plan, image, store)
+    let mut trial = Trial::of(plan, image, store);
+    if random.one_in(4) {
+        // A few sectors before the limit of every sum.
+        for sub_area in 0..plan.sub_areas.len() {
+            trial.wear_out(sub_area, 4_294_967_295 - random.below(8));
+        }
+    }
+    trial
 }
 
 /// Takes the steps and stops at the first that breaks a demand.
@@ -99,6 +106,9 @@ fn assert_tried(tally: &Tally, often: u64) {
     for (name, count) in tally.clearing.counts() {
         assert!(count >= often / 4, "writes with a byte of neither version, {name}: only {count}");
     }
+    for (name, count) in tally.wear.counts() {
+        assert!(count >= often / 4, "erases, {name}: only {count}");
+    }
     // Below is rare between equals: the busy lists try it.
     for (name, count) in tally.equals.counts().into_iter().filter(|(name, _)| *name != "below") {
         assert!(count >= often, "between equals, {name}: only {count}");
@@ -122,6 +132,7 @@ fn other_plans() {
         7 => {
             let mut plan = largest();
             draw_marks(random, &mut plan);
+            draw_wear(random, &mut plan);
             plan
         }
         _ => impatient(random),
@@ -129,6 +140,7 @@ fn other_plans() {
     let tally = runs(52, 4_000, plan);
     assert!(tally.suspensions.counts().iter().all(|(_, count)| *count >= 50));
     assert!(tally.clearing.counts().iter().all(|(_, count)| *count >= 100));
+    assert!(tally.wear.counts().iter().all(|(_, count)| *count >= 100));
     assert!((0..=3).all(|result| tally.results(result) >= 1_000));
     assert!(tally.waits.iter().all(|count| *count >= 1_000));
 }
@@ -138,7 +150,7 @@ fn other_plans() {
 #[test]
 fn busy_lists() {
     let mut random = Random::new(53);
-    let (mut sums, mut suspended) = ([0; 6], 0);
+    let (mut sums, mut suspended, mut wear) = ([0; 6], 0, [0; 11]);
     for number in 0..24 {
         let plan = busy_plan(&mut random);
         let calls = busy_calls(&mut random, &plan);
@@ -151,8 +163,10 @@ fn busy_lists() {
         let counts = tally.equals.counts().map(|(_, count)| count);
         sums.iter_mut().zip(counts).for_each(|(sum, count)| *sum += count);
         suspended += tally.suspensions.suspended;
+        let counts = tally.wear.counts().map(|(_, count)| count);
+        wear.iter_mut().zip(counts).for_each(|(sum, count)| *sum += count);
     }
-    println!("between equals: {sums:?}, erases suspended: {suspended}");
+    println!("between equals: {sums:?}, erases suspended: {suspended}, wear: {wear:?}");
     assert!(sums.iter().all(|sum| *sum >= 100), "{sums:?}");
     assert!(suspended >= 50, "{suspended}");
 }

@@ -5,11 +5,12 @@ mod bench;
 
 use bench::{Bench, PLAN_E};
 use model::calls::{Call, Query};
-use model::jobs::{Answer, Operation};
+use model::jobs::{Answer, Operation, Target};
 use model::manager::{Manager, WearInfo};
 use model::plan::{load, Chip, Plan};
 use model::plans::{encode, plan_e, plan_f, plan_t, with_chips, with_wear};
 use model::session::run_session;
+use model::wait_book::{Erased, WaitBook};
 
 impl Bench {
     /// Sum and charge.
@@ -71,6 +72,29 @@ fn done_erases_add_their_sectors() {
     bench.run(&[("4 1 256 16", "0"), ("0 p", "R 1:4:32:16"), ("0 d", "R -")]);
     assert_eq!(bench.wear(1, 256), (1, 0));
     assert_eq!(bench.wear(0, 0), (3, 214_286));
+}
+
+/// The same in the wait book, alone. It has no limit: near that of the manager's sums it goes on.
+#[test]
+fn the_wait_book_keeps_every_done_erase() {
+    let (image, store) = ([255; 64], [0; 32]);
+    let erase = |book: WaitBook, area: u32, address: u32, length: u32| {
+        let (book, number) = book.job(Operation::Erase, Target { area, address, length });
+        assert_eq!(number, 0);
+        book.round([Answer::Pending; 4], &image, &store).0
+    };
+    let end = |book: WaitBook, answer: Answer| book.round([answer; 4], &image, &store).0;
+    let book = end(erase(WaitBook::of(&worn_t()), 0, 0, 32), Answer::Failed(5));
+    assert_eq!(book.wear(), [0, 0]);
+    let book = end(erase(book, 0, 16, 16).cancel(0).0, Answer::Done);
+    assert_eq!(book.wear(), [1, 0]);
+    let book = end(erase(book, 0, 0, 32), Answer::Done);
+    assert_eq!(book.wear(), [3, 0]);
+    let book = end(erase(book, 1, 256, 16), Answer::Done);
+    assert_eq!(book.wear(), [3, 1]);
+    let near_limit = Erased { sub_area: 0, sectors: 4_294_967_292 };
+    let book = end(erase(book.with_erased(near_limit), 0, 0, 32), Answer::Done);
+    assert_eq!(book.wear(), [4_294_967_297, 1]);
 }
 
 /// "A query, addressed and refused like memory info".

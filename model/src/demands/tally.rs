@@ -2,6 +2,7 @@
 
 use super::clearing::Clearing;
 use super::suspensions::Suspensions;
+use super::wear::Wear;
 use crate::calls::Call;
 use crate::histogram::Histogram;
 use crate::jobs::JobResult;
@@ -32,6 +33,7 @@ pub struct Tally {
     pub equals: Equals,
     pub suspensions: Suspensions,
     pub clearing: Clearing,
+    pub wear: Wear,
 }
 
 /// How often the order of acceptance decided between areas of equal priority.
@@ -156,7 +158,8 @@ impl fmt::Display for Tally {
         writeln!(f, "jobs at the bound on own: {own}, on below: {below}")?;
         writeln!(f, "between equals:{}", listed(&self.equals.counts()))?;
         writeln!(f, "erases:{}", listed(&self.suspensions.counts()))?;
-        write!(f, "writes with a byte of neither version:{}", listed(&self.clearing.counts()))
+        writeln!(f, "writes with a byte of neither version:{}", listed(&self.clearing.counts()))?;
+        write!(f, "wear, erases:{}", listed(&self.wear.counts()))
     }
 }
 

@@ -76,6 +76,7 @@ impl WaitBook {
             Ok(()) => {
                 let fates = self.fates(answers, image, store);
                 let answered = self.with_one_more_round().after_answers(&fates);
+                let answered = answered.with_done_erases(&fates);
                 (answered.after_starts().after_counting(), 0)
             }
         }
@@ -167,6 +168,7 @@ impl WaitBook {
             entries: self.entries.into_iter().enumerate().map(entry).collect(),
             plan: self.plan,
             order: self.order,
+            erased: self.erased,
         }
         .without_ended()
     }
@@ -183,7 +185,8 @@ impl WaitBook {
                 None => entry,
             };
         let entries = self.entries.into_iter().enumerate().map(entry).collect();
-        WaitBook { stations, entries, plan: self.plan, order: self.order }.without_ended()
+        let (plan, order, erased) = (self.plan, self.order, self.erased);
+        WaitBook { stations, entries, plan, order, erased }.without_ended()
     }
 
     fn station_after(&self, station: Station, turn: &Turn) -> Station {
@@ -250,7 +253,7 @@ impl WaitBook {
     /// job info take a parked erase as not running".
     fn after_counting(self) -> WaitBook {
         let ranks: Vec<_> = (0..self.entries.len()).map(|area| self.rank(area)).collect();
-        let WaitBook { plan, stations, entries, order } = self;
+        let WaitBook { plan, stations, entries, order, erased } = self;
         let counted = |(area, entry): (usize, Entry)| {
             let own = stations.iter().any(
                 |station| matches!(station, Station::Runs { area: runner, .. } if *runner == area),
@@ -269,7 +272,7 @@ impl WaitBook {
             Entry { numbers, ..entry }
         };
         let entries = entries.into_iter().enumerate().map(counted).collect();
-        WaitBook { plan, stations, entries, order }
+        WaitBook { plan, stations, entries, order, erased }
     }
 
     /// Sorts pending areas by rank, the highest first: "the larger priority is above"; "Areas of
