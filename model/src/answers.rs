@@ -3,9 +3,9 @@
 
 mod tried;
 
-pub use tried::{all_tries, Asked, State, Tried, Try};
+pub use tried::{all_tries, Asked, State, Tried, Try, Worn};
 
-use crate::manager::{JobInfo, Manager, MemoryInfo};
+use crate::manager::{JobInfo, Manager, MemoryInfo, Request, WearInfo};
 use crate::plan::{self, Plan};
 use crate::random::Random;
 use crate::script::Script;
@@ -21,7 +21,7 @@ pub struct Answered<T> {
     pub value: T,
 }
 
-/// Every query of one area, memory info at one address.
+/// Every query of one area, memory info and wear info at one address.
 #[derive(Clone, Copy, Debug, PartialEq, Eq)]
 pub struct Answers {
     pub status: Answered<u8>,
@@ -29,6 +29,7 @@ pub struct Answers {
     pub processed: Answered<u32>,
     pub job_info: Answered<JobInfo>,
     pub memory_info: Answered<MemoryInfo>,
+    pub wear_info: Answered<WearInfo>,
 }
 
 /// What the queries are asked of.
@@ -79,6 +80,7 @@ impl Answers {
             processed: manager.and_then(|manager| manager.processed(area)).into(),
             job_info: manager.and_then(|manager| manager.job_info(area)).into(),
             memory_info: manager.and_then(|manager| manager.memory_info(area, address)).into(),
+            wear_info: manager.and_then(|manager| manager.wear_info(area, address)).into(),
         }
     }
 }
@@ -97,31 +99,61 @@ pub fn left_by(script: &Script) -> Option<Manager> {
     }
 }
 
-/// The session up to any of its lines; every other time, if there is one, up to one that leaves a
-/// rare state.
+/// The session up to any of its lines; most times, if there is one, up to one that leaves a rare state.
 pub fn cut(random: &mut Random, script: &Script) -> Script {
-    let rare = if random.one_in(2) { rare_lengths(script) } else { Vec::new() };
     let any = random.index(script.lines.len() + 1);
+    let sought: &[fn(&Manager) -> bool] = match random.below(8) {
+        0..=2 => &[],
+        3..=4 => &[is_rare],
+        5..=6 => &[is_rarest, is_rare],
+        _ => &[is_worn_out],
+    };
+    let mut lengths = sought.iter().map(|is_so| rare_lengths(script, *is_so));
+    let lengths = lengths.find(|lengths| !lengths.is_empty());
     let mut part = script.clone();
-    part.lines.truncate(if rare.is_empty() { any } else { random.pick(&rare) });
+    part.lines.truncate(lengths.map_or(any, |lengths| random.pick(&lengths)));
     part
 }
 
-/// After how many lines a cancelled job waits for its request to end, or an erase is suspended.
-fn rare_lengths(script: &Script) -> Vec<usize> {
+/// After how many lines the manager is so.
+fn rare_lengths(script: &Script, is_so: fn(&Manager) -> bool) -> Vec<usize> {
     let (image, store) = script.lending.memory();
     let Ok(mut session) = Session::lent(&script.plan, image, store) else {
         return Vec::new();
     };
-    let mut is_rare_after = |line: &[u8]| {
+    let mut is_so_after = |line: &[u8]| {
         session.answer(line);
-        let manager = &session.manager;
-        let plan = manager.plan();
-        (0..plan.areas.len()).any(|area| manager.is_cancelled(area))
-            || (0..plan.devices.len()).any(|device| manager.suspended(device).is_some())
+        is_so(&session.manager)
     };
-    let rare = script.lines.iter().zip(1..).filter(|(line, _)| is_rare_after(line));
+    let rare = script.lines.iter().zip(1..).filter(|(line, _)| is_so_after(line));
     rare.map(|(_, length)| length).collect()
+}
+
+/// A cancelled job waits for its request to end, or an erase is suspended.
+fn is_rare(manager: &Manager) -> bool {
+    let mut areas = 0..manager.plan().areas.len();
+    areas.any(|area| manager.is_cancelled(area)) || suspended(manager).next().is_some()
+}
+
+/// The erase of a cancelled job is suspended.
+fn is_rarest(manager: &Manager) -> bool {
+    suspended(manager).any(|erase| manager.is_cancelled(erase.area))
+}
+
+/// A sub-area has more wear than its record allows for.
+fn is_worn_out(manager: &Manager) -> bool {
+    let is_beyond = |place: &Place| {
+        let info = manager.wear_info(place.area, place.address);
+        info.is_ok_and(|info| info.charge > 1_000_000)
+    };
+    (0..AREAS_ASKED).any(|area| {
+        let addresses = addresses(manager.plan(), area).into_iter();
+        addresses.map(|address| Place { area, address }).any(|place| is_beyond(&place))
+    })
+}
+
+fn suspended(manager: &Manager) -> impl Iterator<Item = Request> + '_ {
+    (0..manager.plan().devices.len()).filter_map(|device| manager.suspended(device))
 }
 
 /// Areas 0 to 9, whether they are known or not, each at addresses inside and outside, and at both

@@ -1,17 +1,20 @@
 //! What sessions tried, told from their lines and what they printed: shows, and lets tests assert,
 //! that no kind of line, refusal, answer or result went untried, nor the order of acceptance, nor the
-//! erases that give way, nor the writes on chips that only clear bits, nor the burst test.
+//! erases that give way, nor the writes on chips that only clear bits, nor the burst test, nor the wear
+//! account.
 
 mod bursts;
 mod clearing;
 mod equals;
 mod follower;
 mod suspensions;
+mod wear;
 
 pub use bursts::{BurstSize, BurstTest};
 pub use clearing::Clearing;
 pub use equals::Equals;
 pub use suspensions::Suspension;
+pub use wear::{Wear, WearRecords};
 
 use crate::plan::{self, Chip, Plan};
 use crate::plans::{equals_meet, priority_count};
@@ -40,6 +43,9 @@ pub enum Kind {
     Sizes(Sizes),
     /// A request with such a burst was cut so.
     Burst(BurstSize, BurstTest),
+    /// Which wear records the plan has.
+    WearRecords(WearRecords),
+    Wear(Wear),
     /// What the image held at the start of a session on a plan that is taken.
     Image(Image),
     /// A line of this type answered with this number; 0 is accepted.
@@ -163,7 +169,9 @@ pub fn all_kinds() -> Vec<Kind> {
     kinds.extend(Clearing::ALL.map(Kind::Clearing));
     kinds.extend(Sizes::ALL.map(Kind::Sizes));
     kinds.extend(all_bursts());
-    kinds.extend((1..=8).map(|number| Kind::Plan(PlanAnswer::Refused(number))));
+    kinds.extend(WearRecords::ALL.map(Kind::WearRecords));
+    kinds.extend(Wear::ALL.map(Kind::Wear));
+    kinds.extend((1..=8).chain([20]).map(|number| Kind::Plan(PlanAnswer::Refused(number))));
     kinds.extend((0..=3).map(Kind::Result));
     kinds.extend([Count::Own, Count::Above, Count::Below, Count::Locked].map(Kind::Wait));
     kinds.extend(all_numbers());
@@ -269,7 +277,7 @@ impl Coverage {
     }
 
     /// What a session on a plan that is taken tried of the order of acceptance, of erases that give
-    /// way, of writes on chips that only clear bits and of the burst test.
+    /// way, of writes on chips that only clear bits, of the burst test and of the wear account.
     fn add_jobs(&mut self, script: &Script, output: &[u8]) {
         let plan = plan::load(&script.plan).expect("the plan is taken");
         self.add_plan(&plan);
@@ -300,6 +308,9 @@ impl Coverage {
         }
         for sizes in Sizes::ALL.into_iter().filter(|sizes| sizes.holds(plan)) {
             self.add_kind(Kind::Sizes(sizes));
+        }
+        for records in WearRecords::ALL.into_iter().filter(|records| records.holds(plan)) {
+            self.add_kind(Kind::WearRecords(records));
         }
     }
 

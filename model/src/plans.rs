@@ -251,6 +251,24 @@ pub fn plan_w() -> Plan {
     }
 }
 
+/// One sub-area of 65,536 sectors of one byte, erased by a burst, with a wear record of endurance 1.
+pub fn plan_s() -> Plan {
+    let mut plan = plan_w();
+    plan.devices[0].length = 65_536;
+    plan.sub_areas[0] = SubArea {
+        start: 0,
+        sector: 1,
+        sector_burst: 65_536,
+        page: 1,
+        page_burst: 1,
+        smallest_read: 1,
+        largest_read: 1,
+        sector_count: 65_536,
+        ..plan.sub_areas[0]
+    };
+    with_wear(plan, &[(0, 1)])
+}
+
 /// The plan with wear records of these sub-areas and endurances.
 pub fn with_wear(mut plan: Plan, records: &[(u8, u32)]) -> Plan {
     let record = |(sub_area, endurance): &(u8, u32)| WearRecord {

@@ -2,7 +2,7 @@
 //! one subject.
 
 use crate::plan;
-use crate::plans::{any, encode, largest, plan_t, small, valid, wounded_wear};
+use crate::plans::{any, encode, full, largest, plan_s, plan_t, small, valid, wounded_wear};
 use crate::random::Random;
 use crate::segments::index;
 use crate::session::{BENCH_SUM_LIMIT, PLAN_LIMIT, STORE_LENGTH};
@@ -117,6 +117,19 @@ impl Script {
         }
     }
 
+    /// A session of so many erases of a sub-area with as many sectors as the bench takes, 65,536 of one byte,
+    /// each in one burst: 65,536 of them bring its wear to 2^32, beyond what its sum can say.
+    pub fn wearing_out(erases: usize) -> Script {
+        let plan = encode(&plan_s());
+        let lines = ["4 0 0 65536", "0 d", "0 d"].map(|line| line.as_bytes().to_vec());
+        Script {
+            lines: lines.iter().cloned().cycle().take(3 * erases).collect(),
+            is_last_ended: true,
+            lending: Lending::bench(&plan),
+            plan,
+        }
+    }
+
     /// What the bench reads.
     pub fn input(&self) -> Vec<u8> {
         let mut input = self.lines.join(&b'\n');
@@ -138,7 +151,7 @@ fn doubtful_plan(random: &mut Random) -> Vec<u8> {
             bytes
         }
         2 => {
-            let plan = small(random);
+            let plan = if random.one_in(2) { small(random) } else { full(random) };
             wounded_wear(random, &plan)
         }
         _ => any(random),

@@ -3,16 +3,18 @@
 
 mod mutants;
 
-use model::answers::{self, cut, Queried, Tried};
+use model::answers::{self, cut, Answers, Place, Queried, Tried, Try, Worn};
 use model::coverage::{BurstSize, BurstTest, Clearing, Coverage, Equals, Image, Kind, Marks};
-use model::coverage::{PlanAnswer, Priorities, Sizes, Suspension};
+use model::coverage::{PlanAnswer, Priorities, Sizes, Suspension, Wear, WearRecords};
 use model::fuzz::{fuzz, Ending};
+use model::manager::WearInfo;
 use model::plan::Plan;
-use model::plans::{encode, plan_t, plan_w};
+use model::plans::{encode, plan_e, plan_t, plan_w, with_wear};
 use model::random::Random;
 use model::script::{Lending, Script};
 use model::shrink::{report, smallest};
 use model::subject::{compare, play, Model, Subject};
+use mutants::wear;
 use std::path::Path;
 use std::time::Duration;
 
@@ -42,6 +44,7 @@ fn the_sessions_try_everything() {
     assert_clearing_is_tried(&coverage);
     assert_sizes_are_tried(&coverage);
     assert_bursts_are_tried(&coverage);
+    assert_wear_is_tried(&coverage);
 }
 
 /// On half of the plans or more the order of acceptance matters, and it decides often.
@@ -119,8 +122,27 @@ fn assert_bursts_are_tried(coverage: &Coverage) {
     }
 }
 
-/// Bursts that are powers of two, and others, in a session on a plan.
-fn bursts_of(plan: &Plan, lines: &[&str]) -> [[u64; 4]; 2] {
+/// A quarter of the plans or more have no wear record, some and all; erases end often in every manner, in
+/// sub-areas with a record and without, and often beyond the endurance.
+fn assert_wear_is_tried(coverage: &Coverage) {
+    let plans = coverage.count(Kind::Plan(PlanAnswer::Taken));
+    let records = WearRecords::ALL.map(|records| coverage.count(Kind::WearRecords(records)));
+    assert!(records.iter().all(|count| 4 * count >= plans), "{records:?} of {plans}");
+    assert!(coverage.count(Kind::Plan(PlanAnswer::Refused(20))) >= 30);
+    for wear in Wear::ALL {
+        let count = coverage.count(Kind::Wear(wear));
+        let least = match wear {
+            Wear::DoneResumedCancelled => 30,
+            Wear::DoneResumed | Wear::FailedResumed | Wear::DoneCancelled => 200,
+            Wear::FailedCancelled => 200,
+            _ => 600,
+        };
+        assert!(count >= least, "{wear:?}: only {count}");
+    }
+}
+
+/// What a session on a plan tries.
+fn coverage_of(plan: &Plan, lines: &[&str]) -> Coverage {
     let plan = encode(plan);
     let script = Script {
         lines: lines.iter().map(|line| line.as_bytes().to_vec()).collect(),
@@ -130,6 +152,12 @@ fn bursts_of(plan: &Plan, lines: &[&str]) -> [[u64; 4]; 2] {
     };
     let mut coverage = Coverage::default();
     coverage.add(&script, &play(&mut Model, &script).output);
+    coverage
+}
+
+/// Bursts that are powers of two, and others, in a session on a plan.
+fn bursts_of(plan: &Plan, lines: &[&str]) -> [[u64; 4]; 2] {
+    let coverage = coverage_of(plan, lines);
     BurstSize::ALL.map(|size| burst_counts(&coverage, size))
 }
 
@@ -148,9 +176,42 @@ fn burst_tests_are_counted() {
     assert_eq!(read, [[0; 4]; 2]);
 }
 
+/// By hand, on plan E with a total endurance of 1 in the sub-area of area 0: an erase that is suspended and
+/// then done, and one of a cancelled job, which is one too many; one that fails and one that is dropped; two
+/// sectors of a sub-area without record. On plan T a burst of two sectors.
+#[test]
+fn wear_is_counted() {
+    let suspended = ["4 0 0 16", "0 p", "2 1 256 4", "0 p", "0 d", "0 d"];
+    let cancelled = ["4 0 0 16", "0 p", "9 0", "0 d"];
+    let failed = ["4 1 256 16", "0 p", "0 5", "4 1 256 16", "0 p", "0 p", "0 p", "0 p"];
+    let done = ["4 2 512 32", "0 p", "0 d", "0 d"];
+    let lines = [&suspended[..], &cancelled, &failed, &done].concat();
+    let on_e = coverage_of(&with_wear(plan_e(3), &[(0, 1)]), &lines);
+    let counts = |coverage: &Coverage| {
+        let counts = Wear::ALL.map(|wear| (wear, coverage.count(Kind::Wear(wear))));
+        counts.into_iter().filter(|(_, count)| *count > 0).collect::<Vec<_>>()
+    };
+    let expected = [
+        (Wear::Done, 4),
+        (Wear::DoneResumed, 1),
+        (Wear::DoneCancelled, 1),
+        (Wear::Failed, 1),
+        (Wear::Dropped, 1),
+        (Wear::WithRecord, 2),
+        (Wear::WithoutRecord, 2),
+        (Wear::BeyondEndurance, 1),
+    ];
+    assert_eq!(counts(&on_e), expected);
+    let on_t = coverage_of(&plan_t(), &["4 0 0 32", "0 p", "0 d"]);
+    assert_eq!(
+        counts(&on_t),
+        [(Wear::Done, 1), (Wear::DoneOfSeveral, 1), (Wear::WithoutRecord, 1)]
+    );
+}
+
 #[test]
 fn every_mutant_is_found() {
-    for (number, mut mutant) in (0..).zip(mutants::all().into_iter().chain(mutants::lasting())) {
+    for (number, mut mutant) in (0..).zip(mutants::all().into_iter().chain(mutants::large())) {
         let found = first_difference(&mut mutant, 62 + number, SESSIONS);
         assert!(found.is_some(), "{} was not found", mutant.name);
     }
@@ -190,7 +251,67 @@ fn every_wrong_answer_is_found() {
         let found = first_wrong_answer(&mutant, 262 + number, SESSIONS);
         assert!(found.is_some(), "{} was not found", mutant.name);
     }
-    assert_eq!(first_wrong_answer(&mutants::queries::right_answers(), 262, SESSIONS / 10), None);
+    for (number, mutant) in (0..).zip(wear::all()) {
+        let found = first_wrong_answer(&mutant, 462 + number, SESSIONS);
+        assert!(found.is_some(), "{} was not found", mutant.name);
+    }
+}
+
+/// What is found of them is not owed to the way they are made.
+#[test]
+fn right_answers_are_not_found() {
+    let right_ones: [&dyn Queried; 3] =
+        [&mutants::queries::right_answers(), &wear::right_charges(), &wear::right_wear()];
+    for (number, right) in (0..).zip(right_ones) {
+        assert_eq!(first_wrong_answer(right, 262 + number, SESSIONS / 10), None);
+    }
+}
+
+/// 65,535 erases of 65,536 sectors bring a sum to 4,294,901,760, one more to its limit, and there it stays.
+#[test]
+fn sums_stick_in_sessions() {
+    let origin = Place { area: 0, address: 0 };
+    let sums = [65_535, 65_536, 65_537].map(|erases| {
+        let manager = answers::left_by(&Script::wearing_out(erases)).expect("an accepted plan");
+        Answers::of(Some(&manager), origin).wear_info.value
+    });
+    // The limit is one less than 65,536 times 65,536: its share is less by 15.26 millionths.
+    let stuck = WearInfo { sum: 4_294_967_295, charge: 65_535_999_985 };
+    assert_eq!(sums, [WearInfo { sum: 4_294_901_760, charge: 65_535_000_000 }, stuck, stuck]);
+}
+
+#[test]
+fn every_wrong_limit_is_found() {
+    let script = Script::wearing_out(65_536);
+    let is_found =
+        |mutant: &dyn Queried| answers::compare(mutant, &script, &mut Tried::default()).is_err();
+    for mutant in wear::of_limits() {
+        assert!(is_found(&mutant), "{} was not found", mutant.name);
+    }
+    for mutant in wear::of_great_charges() {
+        assert!(is_found(&mutant), "{} was not found", mutant.name);
+    }
+    assert!(!is_found(&wear::right_wear()));
+}
+
+/// What `tests/proved_queries.rs` rests on: the same sessions, asked of the model alone.
+#[test]
+fn the_queries_try_everything() {
+    let mut random = Random::new(95);
+    let (right, mut tried) = (wear::right_wear(), Tried::default());
+    for _ in 0..SESSIONS / 3 {
+        let script = Script::drawn(&mut random, MOST_LINES);
+        for _ in 0..4 {
+            let part = cut(&mut random, &script);
+            assert!(answers::compare(&right, &part, &mut tried).is_ok(), "{part:?}");
+        }
+    }
+    println!("{tried}");
+    assert_eq!(tried.rarer_than(50), []);
+    for worn in Worn::ALL {
+        let count = tried.count(Try::Wear(worn));
+        assert!(count >= 200, "{worn:?}: only {count}");
+    }
 }
 
 /// What is found is made so small that a person sees what is wrong.

@@ -2,7 +2,8 @@
 //! went untried.
 
 use super::{Answers, Place};
-use crate::manager::{DeviceState, Manager};
+use crate::manager::{DeviceState, Manager, WearInfo};
+use crate::plan::Plan;
 use crate::segments;
 use std::collections::BTreeMap;
 use std::fmt;
@@ -14,11 +15,23 @@ pub enum Asked {
     Processed,
     JobInfo,
     MemoryInfo,
+    WearInfo,
 }
 
 impl Asked {
-    pub const ALL: [Asked; 5] =
-        [Asked::Status, Asked::Result, Asked::Processed, Asked::JobInfo, Asked::MemoryInfo];
+    pub const ALL: [Asked; 6] = [
+        Asked::Status,
+        Asked::Result,
+        Asked::Processed,
+        Asked::JobInfo,
+        Asked::MemoryInfo,
+        Asked::WearInfo,
+    ];
+
+    /// Does the query read the address?
+    fn is_at_address(self) -> bool {
+        matches!(self, Asked::MemoryInfo | Asked::WearInfo)
+    }
 }
 
 /// What stands of the area that is asked.
@@ -51,6 +64,34 @@ pub enum Try {
     FirstByte,
     Inside,
     LastByte,
+    /// Wear info that says so.
+    Wear(Worn),
+}
+
+/// What wear info says of a sub-area.
+#[derive(Clone, Copy, Debug, PartialEq, Eq, PartialOrd, Ord)]
+pub enum Worn {
+    /// Sum 0, with a record and without one.
+    FreshWithRecord,
+    FreshWithoutRecord,
+    /// A sum without a charge.
+    WithoutRecord,
+    /// A charge that is the sum's share, and one that is more.
+    Exact,
+    RoundedUp,
+    /// A charge of more than a million.
+    Beyond,
+}
+
+impl Worn {
+    pub const ALL: [Worn; 6] = [
+        Worn::FreshWithRecord,
+        Worn::FreshWithoutRecord,
+        Worn::WithoutRecord,
+        Worn::Exact,
+        Worn::RoundedUp,
+        Worn::Beyond,
+    ];
 }
 
 #[derive(Clone, Debug, Default)]
@@ -78,9 +119,11 @@ pub fn all_tries() -> Vec<Try> {
     let accepted =
         Asked::ALL.iter().flat_map(|asked| STATES.map(|state| Try::Accepted(*asked, state)));
     let refused = Asked::ALL.iter().flat_map(|asked| [9, 10].map(|n| Try::Refused(*asked, n)));
-    let of_memory =
-        [Try::Refused(Asked::MemoryInfo, 12), Try::FirstByte, Try::Inside, Try::LastByte];
-    accepted.chain(refused).chain(of_memory).collect()
+    let at_address = Asked::ALL.into_iter().filter(|asked| asked.is_at_address());
+    let outside = at_address.map(|asked| Try::Refused(asked, 12));
+    let of_memory = [Try::FirstByte, Try::Inside, Try::LastByte];
+    let of_wear = Worn::ALL.map(Try::Wear);
+    accepted.chain(refused).chain(outside).chain(of_memory).chain(of_wear).collect()
 }
 
 impl Tried {
@@ -99,8 +142,8 @@ impl Tried {
         let area = segments::index(u64::from(place.area));
         let known = manager.filter(|manager| area < manager.plan().areas.len());
         let states = known.map_or_else(Vec::new, |manager| states(manager, area));
-        // Only memory info reads the address; address 0 is asked of every area.
-        let counts = |asked: Asked| asked == Asked::MemoryInfo || place.address == 0;
+        // Most do not read the address; address 0 is asked of every area.
+        let counts = |asked: Asked| asked.is_at_address() || place.address == 0;
         for (asked, number) in numbers(answers).into_iter().filter(|(asked, _)| counts(*asked)) {
             match number {
                 0 => states.iter().for_each(|state| self.add_try(Try::Accepted(asked, *state))),
@@ -111,6 +154,10 @@ impl Tried {
             let tried = known.and_then(|manager| spot(manager, area, place.address));
             tried.into_iter().for_each(|tried| self.add_try(tried));
         }
+        if let (Some(manager), 0) = (known, answers.wear_info.number) {
+            let worn = worn(manager.plan(), area, place.address, answers.wear_info.value);
+            worn.into_iter().for_each(|worn| self.add_try(Try::Wear(worn)));
+        }
     }
 
     fn add_try(&mut self, tried: Try) {
@@ -118,13 +165,14 @@ impl Tried {
     }
 }
 
-fn numbers(answers: &Answers) -> [(Asked, u8); 5] {
+fn numbers(answers: &Answers) -> [(Asked, u8); 6] {
     [
         (Asked::Status, answers.status.number),
         (Asked::Result, answers.result.number),
         (Asked::Processed, answers.processed.number),
         (Asked::JobInfo, answers.job_info.number),
         (Asked::MemoryInfo, answers.memory_info.number),
+        (Asked::WearInfo, answers.wear_info.number),
     ]
 }
 
@@ -166,6 +214,26 @@ fn spot(manager: &Manager, area: usize, address: u32) -> Option<Try> {
     } else {
         Try::Inside
     })
+}
+
+/// All that wear info says of the sub-area at an address.
+fn worn(plan: &Plan, area: usize, address: u32, info: WearInfo) -> Vec<Worn> {
+    let placed = segments::holder(plan, area, u64::from(address)).expect("inside the area");
+    let total = plan
+        .endurance(placed.number)
+        .map(|endurance| u128::from(endurance) * u128::from(placed.sub_area.sector_count));
+    let (sum, charge) = (u128::from(info.sum), u128::from(info.charge));
+    match total {
+        Some(_) if sum == 0 => vec![Worn::FreshWithRecord],
+        None if sum == 0 => vec![Worn::FreshWithoutRecord],
+        None => vec![Worn::WithoutRecord],
+        Some(total) => {
+            let is_exact = charge * total == sum * 1_000_000;
+            let mut worn = vec![if is_exact { Worn::Exact } else { Worn::RoundedUp }];
+            worn.extend((charge > 1_000_000).then_some(Worn::Beyond));
+            worn
+        }
+    }
 }
 
 impl fmt::Display for Tried {

@@ -4,7 +4,7 @@
 //! shown, and between a piece that was done and the next one that is shown. Polls, suspended erases and
 //! the bytes that were written are known from what is shown and answered.
 
-use super::{bursts, clearing, equals, suspensions};
+use super::{bursts, clearing, equals, suspensions, wear};
 use super::{fields, number, Kind};
 use crate::jobs::Operation;
 use crate::plan::Plan;
@@ -20,6 +20,10 @@ pub(super) struct Follower<'a> {
     pub(super) polls: Vec<u64>,
     /// Of each device.
     pub(super) suspended: Vec<Option<Suspended>>,
+    /// Of each device: has its request been suspended?
+    pub(super) resumed: Vec<bool>,
+    /// Of each sub-area the sectors of its done erases.
+    pub(super) worn: Vec<u64>,
     /// Of each image byte: has a write acted on it, and no erase since?
     pub(super) written: Vec<bool>,
     /// Accepted jobs and locks of each area.
@@ -110,6 +114,8 @@ impl<'a> Follower<'a> {
             shown: vec![Shown::Nothing; plan.devices.len()],
             polls: vec![0; plan.devices.len()],
             suspended: vec![None; plan.devices.len()],
+            resumed: vec![false; plan.devices.len()],
+            worn: vec![0; plan.sub_areas.len()],
             written: vec![false; index(plan.device_sum())],
             acceptances: vec![0; plan.areas.len()],
         }
@@ -189,7 +195,9 @@ impl<'a> Follower<'a> {
             came_up.extend(suspensions::came_up(self, device, shown, change));
             came_up.extend(clearing::came_up(self, device, words[device], change));
             came_up.extend(bursts::came_up(self, shown, change));
+            came_up.extend(wear::came_up(self, device, words[device]));
             self.follow_bytes(device, words[device]);
+            self.follow_wear(device, words[device]);
             self.follow(device, shown, change);
         }
         came_up
@@ -228,9 +236,29 @@ impl<'a> Follower<'a> {
         }
     }
 
-    fn change(&self, device: usize, now: Shown, word: &[u8]) -> Change {
+    fn follow_wear(&mut self, device: usize, word: &[u8]) {
+        if let (Shown::Request { job_type, start, length, .. }, b"d") = (self.shown[device], word) {
+            if job_type == u64::from(Operation::Erase.number()) {
+                let sub_area = self.sub_area(start);
+                self.worn[sub_area] += length / u64::from(self.plan.sub_areas[sub_area].sector);
+            }
+        }
+    }
+
+    /// The number of the sub-area that holds an image byte.
+    pub(super) fn sub_area(&self, address: u64) -> usize {
+        let mut sub_areas = self.plan.sub_areas.iter();
+        sub_areas.position(|s| s.bytes().contains(&address)).expect("requests lie in sub-areas")
+    }
+
+    /// Does a request that runs on a device take this answer and run on?
+    pub(super) fn runs_on(&self, device: usize, word: &[u8]) -> bool {
         let patience = u64::from(self.plan.devices[device].patience);
-        let runs_on = word == b"p" && self.polls[device] + 1 < patience;
+        word == b"p" && self.polls[device] + 1 < patience
+    }
+
+    fn change(&self, device: usize, now: Shown, word: &[u8]) -> Change {
+        let runs_on = self.runs_on(device, word);
         let is_request = |shown: Shown| shown.area().is_some();
         let erasing = self.suspended[device].map(|erase| erase.area);
         match self.shown[device] {
@@ -254,6 +282,11 @@ impl<'a> Follower<'a> {
             Change::Resumes => None,
             Change::Suspends => self.shown[device].area().map(|area| Suspended { area, polls }),
             Change::RunsOn | Change::Begins | Change::Retries => suspended,
+        };
+        self.resumed[device] = match change {
+            Change::Resumes => true,
+            Change::RunsOn => self.resumed[device],
+            Change::Begins | Change::Retries | Change::Suspends => false,
         };
         self.wait_no_more(device, now, change);
         self.shown[device] = now;

@@ -1,6 +1,6 @@
 //! Drawing wear records, and wounding them.
 
-use super::{Field, RawRecord};
+use super::{low_byte, RawRecord};
 use crate::plan::{Plan, WearRecord, SUB_AREA_MARK, WEAR_MARK};
 use crate::random::Random;
 
@@ -17,10 +17,12 @@ pub fn draw_wear(random: &mut Random, plan: &mut Plan) {
     plan.wear_records = numbers.into_iter().map(record).collect();
 }
 
-/// Few cycles often, so that sessions go beyond them, and the most that a record can have.
+/// Few cycles often, so that sessions go beyond them, and the most that a record can have. A half and a quarter
+/// of 2^32 give a total that is small or 0 to whoever keeps 32 bits of it.
 fn endurance(random: &mut Random) -> u32 {
     let any = random.between(1, u32::MAX);
-    random.pick(&[1, 1, 2, 3, 7, 10, 1_000, any, u32::MAX])
+    let part = random.pick(&[1 << 30, 1 << 31]) + random.below(2);
+    random.pick(&[1, 1, 2, 3, 7, 10, 1_000, part, any, u32::MAX])
 }
 
 /// Draws wear records, at times one too many or a wrong one: question 20 may refuse them.
@@ -41,7 +43,7 @@ fn named(plan: &Plan) -> Vec<u8> {
 /// A record of an unknown sub-area, of endurance 0, or of one of these sub-areas again.
 fn wrong_record(random: &mut Random, sub_area_count: usize, named: &[u8]) -> WearRecord {
     let unknown = u8::try_from(sub_area_count).unwrap_or(u8::MAX);
-    let known = random.below(u32::from(unknown).max(1)).to_le_bytes()[0];
+    let known = low_byte(random.below(u32::from(unknown).max(1)));
     let endurance = endurance(random);
     match random.below(3) {
         0 => {
@@ -58,28 +60,32 @@ fn wrong_record(random: &mut Random, sub_area_count: usize, named: &[u8]) -> Wea
 pub(super) fn wound_wear(random: &mut Random, records: &mut Vec<RawRecord>) {
     let of_kind = |mark: [u8; 2]| records.iter().filter(move |record| record.mark == mark);
     let sub_area_count = of_kind(SUB_AREA_MARK).count();
-    let named: Vec<_> = of_kind(WEAR_MARK).map(|record| low_byte_of(&record.fields[0])).collect();
+    let named: Vec<_> = of_kind(WEAR_MARK).map(|record| low_byte(record.fields[0].value)).collect();
     let record = RawRecord::from(&wrong_record(random, sub_area_count, &named));
-    let right = RawRecord::from(&WearRecord { sub_area: 0, endurance: 1 });
+    let mut right = RawRecord::from(&WearRecord { sub_area: 0, endurance: 1 });
     match random.below(8) {
         0 => {
             let last = records.iter().rposition(|record| record.mark == SUB_AREA_MARK);
             records.insert(random.index(last.map_or(1, |last| last + 1)), right);
         }
-        1 => records.extend(vec![right; 33 + random.index(3)]),
+        1 => records.extend(too_many(random, sub_area_count, &named)),
         2 => {
             let mark = [WEAR_MARK[0], random.pick(&[0x42, 0x51, 0x53, 0x54, 0x56])];
             records.push(RawRecord { mark, ..right });
         }
         3 => {
-            let width = random.index(4);
-            let endurance = Field { value: right.fields[1].value, width };
-            records.push(RawRecord { mark: WEAR_MARK, fields: vec![right.fields[0], endurance] });
+            right.fields[1].width = random.index(3) + 1;
+            records.push(right);
         }
         _ => records.push(record),
     }
 }
 
-fn low_byte_of(field: &Field) -> u8 {
-    field.value.to_le_bytes()[0]
+/// A record for each sub-area that has none, and some again, so that there are more than 32.
+fn too_many(random: &mut Random, sub_area_count: usize, named: &[u8]) -> Vec<RawRecord> {
+    let unnamed = (0..).take(sub_area_count).filter(|number| !named.contains(number));
+    let again = (0..sub_area_count.max(1)).cycle().filter_map(|number| u8::try_from(number).ok());
+    let count = 33 - named.len().min(32) + random.index(3);
+    let right = |sub_area: u8| RawRecord::from(&WearRecord { sub_area, endurance: 1 });
+    unnamed.chain(again).take(count).map(right).collect()
 }

@@ -1,13 +1,15 @@
 //! Subjects that are wrong on purpose: the model with its plan, its lines or its output changed on
 //! the way, with another order of acceptance, with erases that give way wrongly, with writes that
 //! leave other bytes, or with jobs that are cut otherwise; and answers to queries that are wrong
-//! (`queries`). The comparison must find each of them.
+//! (`queries`), with another account of the wear among them (`wear`). The comparison must find each of them.
 
 mod clearing;
 mod cutting;
 mod order;
 pub mod queries;
 mod suspension;
+pub mod wear;
+mod wear_records;
 
 use clearing::{right_byte, stored_if};
 use cutting::right_rule;
@@ -19,6 +21,7 @@ use model::session::Session;
 use model::subject::{Model, Subject};
 use order::{Event, Places};
 use suspension::Flaw;
+use wear_records::{of_many_wear_records, of_unread_wear_records, of_wear_records};
 
 /// From plan, input, image and store to the output.
 type WrongSession = fn(&[u8], &[u8], &mut [u8], &mut [u8]) -> Vec<u8>;
@@ -84,16 +87,21 @@ pub fn all() -> Vec<Mutant> {
     all.extend(of_suspended_jobs());
     all.extend(of_clearing());
     all.extend(of_cutting());
+    all.extend(of_wear_records());
     all
 }
 
-/// Wrong only after hundreds of acceptances: nothing that can be made small.
-pub fn lasting() -> Vec<Mutant> {
-    vec![order_mutant!("acceptances are counted in a byte", |places, event| {
+/// Nothing that can be made small: wrong only after hundreds of acceptances, with more than 32 wear records,
+/// or on plans that question 1 refuses.
+pub fn large() -> Vec<Mutant> {
+    let mut large = of_many_wear_records();
+    large.extend(of_unread_wear_records());
+    large.push(order_mutant!("acceptances are counted in a byte", |places, event| {
         if let Event::Accepted { area, .. } = event {
             places.numbers[area] = places.last() % 256;
         }
-    })]
+    }));
+    large
 }
 
 /// No mutant: the order is kept by another hand, but as the rules have it.

@@ -1,5 +1,6 @@
 //! Answers to queries that are wrong on purpose: those of the model, changed.
 
+use super::wear;
 use model::answers::{left_by, Answers, Place, Queried};
 use model::manager::{JobInfo, Manager, MemoryInfo, RequestInfo, Waits};
 use model::script::Script;
@@ -26,7 +27,7 @@ impl Queried for WrongAnswers {
     }
 }
 
-fn wrong(
+pub fn wrong(
     name: impl Into<String>,
     change: impl Fn(&Manager, Place, &mut Answers) + 'static,
 ) -> WrongAnswers {
@@ -48,6 +49,9 @@ pub fn all() -> Vec<WrongAnswers> {
     all.extend(of_requests());
     all.extend(of_memory());
     all.extend(of_refusals());
+    all.extend(wear::of_charges());
+    all.extend(wear::of_answers());
+    all.extend(wear::of_refusals());
     all
 }
 
