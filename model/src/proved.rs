@@ -70,6 +70,8 @@ pub struct Plan {
     pub device_count: usize,
     pub area_count: usize,
     pub sub_area_count: usize,
+    /// Of each sub-area; 0 where it has no wear record.
+    pub endurance: [u32; 32],
 }
 
 #[repr(C)]
@@ -126,6 +128,8 @@ pub struct LoadView {
     pub devices: [DeviceView; 4],
     /// How many other areas had a job accepted since each area's latest one.
     pub ages: [u8; 8],
+    /// The wear sum of each sub-area.
+    pub wear: [u32; 32],
 }
 
 extern "C" {

@@ -4,7 +4,7 @@
 use model::histogram::Histogram;
 use model::named;
 use model::plan::{self, Area, Device, Plan, SubArea};
-use model::plans::{any, byte_changes, cuts, field_changes, largest, plan_t, valid};
+use model::plans::{any, byte_changes, cuts, field_changes, largest, plan_t, valid, with_wear};
 use model::proved::{self, AreaRecord, DeviceRecord, Granularity, LoadView, SubAreaRecord, Window};
 use model::random::Random;
 
@@ -58,11 +58,20 @@ fn plan_view(plan: &Plan) -> proved::Plan {
     view.device_count = plan.devices.len();
     view.area_count = plan.areas.len();
     view.sub_area_count = plan.sub_areas.len();
+    for record in &plan.wear_records {
+        view.endurance[usize::from(record.sub_area)] = record.endurance;
+    }
     view
 }
 
+/// The plan with most records, each sub-area with a wear record of its own.
+fn largest_worn() -> Plan {
+    let records: Vec<_> = (0..32).map(|sub_area| (sub_area, 1 + u32::from(sub_area))).collect();
+    with_wear(largest(), &records)
+}
+
 /// What the interface owes for these bytes. "A refused load returns the manager of all zeros";
-/// an accepted one the plan with fresh areas and free devices, which are zeros as well, and with
+/// an accepted one the plan with fresh areas, free devices and no wear, which are zeros as well, and with
 /// ages that all differ: by number, as no job was accepted yet.
 fn owed(bytes: &[u8]) -> LoadView {
     match plan::load(bytes) {
@@ -106,13 +115,13 @@ fn random_plans() {
         }
     }
     println!("{histogram}");
-    assert!((0..=8).all(|number| histogram.count(number) >= 4_000));
+    assert!((0..=8).chain([20]).all(|number| histogram.count(number) >= 4_000));
 }
 
 #[test]
 fn every_field_changed() {
     let mut random = Random::new(21);
-    let mut plans = vec![plan_t(), largest()];
+    let mut plans = vec![plan_t(), largest(), with_wear(plan_t(), &[(0, 7)]), largest_worn()];
     plans.extend((0..20).map(|_| valid(&mut random)));
     let mut histogram = Histogram::default();
     for plan in &plans {
@@ -126,8 +135,8 @@ fn every_field_changed() {
 #[test]
 fn every_byte_of_plan_t_changed() {
     let mut histogram = Histogram::default();
-    for bytes in byte_changes(&plan_t()) {
-        histogram.add(compare("plan T, byte changed", &bytes));
+    for bytes in byte_changes(&with_wear(plan_t(), &[(1, 0x12345678)])) {
+        histogram.add(compare("plan T with wear, byte changed", &bytes));
     }
     println!("bytes changed, {histogram}");
 }
@@ -135,7 +144,7 @@ fn every_byte_of_plan_t_changed() {
 #[test]
 fn every_cut() {
     let mut histogram = Histogram::default();
-    for bytes in cuts(&largest()) {
+    for bytes in cuts(&largest_worn()) {
         histogram.add(compare("largest plan, cut", &bytes));
     }
     println!("cuts, {histogram}");

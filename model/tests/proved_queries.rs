@@ -2,7 +2,8 @@
 //! any line: of every area, at both sides of each border of its sub-areas.
 #![cfg(feature = "session")]
 
-use model::answers::{compare, cut, places, report, Asked, State, Tried, Try};
+use model::answers::{compare, cut, left_by, places, report};
+use model::answers::{Answers, Asked, Place, State, Tried, Try, Worn};
 use model::proved::queries::ask;
 use model::proved::session::Library;
 use model::random::Random;
@@ -58,5 +59,22 @@ fn queries_after_sessions() {
             let count = tried.count(Try::Accepted(asked, state));
             assert!(count >= least, "{asked:?} with {state:?}: only {count}");
         }
+    }
+    for worn in Worn::ALL {
+        let count = tried.count(Try::Wear(worn));
+        assert!(count >= 200, "{worn:?}: only {count}");
+    }
+}
+
+/// Of 65,536 sectors in each erase: "which sticks at 4,294,967,295".
+#[test]
+fn sums_stick() {
+    let (limit, origin) = (4_294_967_295, Place { area: 0, address: 0 });
+    for (erases, sum) in [(65_535, 4_294_901_760), (65_536, limit), (65_537, limit)] {
+        let script = Script::wearing_out(erases);
+        let (outcome, answers) = ask(&script, script.lending.memory(), 0, origin.address);
+        assert_eq!(answers.wear_info.value.sum, sum, "{erases} erases");
+        assert_eq!(answers, Answers::of(left_by(&script).as_ref(), origin), "{erases} erases");
+        assert!(outcome == play(&mut Model, &script), "{erases} erases");
     }
 }

@@ -3,7 +3,7 @@
 use super::session::{room, Counts, Library};
 use super::{Granularity, Waits};
 use crate::answers::{Answered, Answers, Place, Queried};
-use crate::manager::{self, JobInfo, MemoryInfo, RequestInfo};
+use crate::manager::{self, JobInfo, MemoryInfo, RequestInfo, WearInfo};
 use crate::script::Script;
 use crate::subject::Outcome;
 
@@ -53,12 +53,20 @@ struct MemoryInfoView {
 }
 
 #[repr(C)]
+struct WearInfoView {
+    number: u8,
+    sum: u32,
+    charge: u64,
+}
+
+#[repr(C)]
 struct QueryView {
     status: StatusView,
     result: ResultView,
     processed: ProcessedView,
     job_info: JobInfoView,
     memory_info: MemoryInfoView,
+    wear_info: WearInfoView,
 }
 
 #[repr(C)]
@@ -121,15 +129,22 @@ impl From<&MemoryInfoView> for MemoryInfo {
     }
 }
 
+impl From<&WearInfoView> for WearInfo {
+    fn from(view: &WearInfoView) -> Self {
+        WearInfo { sum: view.sum, charge: view.charge }
+    }
+}
+
 impl From<&QueryView> for Answers {
     fn from(view: &QueryView) -> Self {
-        let QueryView { status, result, processed, job_info, memory_info } = view;
+        let QueryView { status, result, processed, job_info, memory_info, wear_info } = view;
         Answers {
             status: Answered { number: status.number, value: status.status },
             result: Answered { number: result.number, value: result.result },
             processed: Answered { number: processed.number, value: processed.processed },
             job_info: Answered { number: job_info.number, value: job_info.into() },
             memory_info: Answered { number: memory_info.number, value: memory_info.into() },
+            wear_info: Answered { number: wear_info.number, value: wear_info.into() },
         }
     }
 }
