@@ -82,8 +82,8 @@ pub fn infos(manager: &mut Manager, times: u32) -> u64 {
     sum(manager, times, info)
 }
 
-/// Rounds in which every device gives the same answer; the sum of the numbers and of what the jobs
-/// have processed then.
+/// Rounds in which every device gives the same answer; the sum of the numbers and of what the jobs have
+/// processed and the first eight sub-areas have worn by then.
 pub fn rounds(
     manager: &mut Manager,
     answer: Answer,
@@ -95,7 +95,8 @@ pub fn rounds(
         round(manager, black_box(answer), black_box(&mut *image), black_box(&mut *store))
     });
     let processed = (0..AREAS).map(|area| u64::from(manager.processed(area).unwrap_or(0)));
-    numbers + processed.sum::<u64>()
+    let worn = manager.worn().iter().take(8).map(|sum| u64::from(*sum));
+    numbers + processed.sum::<u64>() + worn.sum::<u64>()
 }
 
 /// Of the pairs of a size and an address, as many as the shorter list has: in how many the address is a

@@ -185,6 +185,11 @@ impl Manager {
         self.suspended[device] = suspended;
     }
 
+    /// The sums of the sub-areas' wear, in plan order.
+    pub fn worn(&self) -> &[u32] {
+        &self.wear
+    }
+
     /// The sum of a sub-area's wear, as after many erases: only for tests that come near its limit.
     pub fn set_wear(&mut self, sub_area: usize, sum: u32) {
         self.wear[sub_area] = sum;

@@ -81,7 +81,7 @@ pub fn take_answer(
             let waits = entry.waits;
             let start = area_record.start;
             let sub_area = due.sub_area;
-            let place = sub_areas[sub_area as usize];
+            let place = sub_areas[due.sub_area as usize];
             let next = next_segment(answer, sub_areas, count, start, area as usize, job, due);
             let taken = take_request(
                 area_record.window.start,

@@ -31,16 +31,16 @@ mul-place : tie.Need-mul-place
 mul-place c = search needs
 
 array-copy-out-place : tie.Need-array-copy-out-place
-array-copy-out-place c = let lent = rw (c .before .before .before .before .state .given .1) at (c .before .before .before .before .before .before .before .before .pre .1) in lent .3
+array-copy-out-place c = let lent = rw (c .before .before .before .before .before .state .given .1) at (c .before .before .before .before .before .before .before .before .before .pre .1) in lent .3
 
 cast-next-segment : tie.Need-cast-next-segment
 cast-next-segment c = search needs
 
 next-segment-requires : tie.Need-next-segment-requires
-next-segment-requires c κs = let lent = rw (c .before .before .before .before .before .state .given .1) at (c .before .before .before .before .before .before .before .before .before .pre .1) in (c .before .before .before .before .before .before .before .before .before .pre .0, lent .2)
+next-segment-requires c κs = let lent = rw (c .before .before .before .before .before .before .state .given .1) at (c .before .before .before .before .before .before .before .before .before .before .pre .1) in (c .before .before .before .before .before .before .before .before .before .before .pre .0, lent .2)
 
 take-request-requires : tie.Need-take-request-requires
-take-request-requires c κs = let lent = rw (c .before .before .before .before .before .before .before .before .state .given .1) at (c .before .before .before .before .before .before .before .before .before .before .before .before .pre .1) in (lent .0, lent .1, lent .2)
+take-request-requires c κs = let lent = rw (c .before .before .before .before .before .before .before .before .before .state .given .1) at (c .before .before .before .before .before .before .before .before .before .before .before .before .before .pre .1) in (lent .0, lent .1, lent .2)
 
 returns : tie.Need-returns
 returns c = rw (c .before .enum-told .given .1, c .none .ensures) (refl, (refl, (refl, ((refl, omega arith), (refl, refl)))))
@@ -56,9 +56,9 @@ same-length-2 c = search needs
 
 returns-3 : tie.Need-returns-3
 returns-3 c =
-    let a = c .before .before .before .before .before .before .before .before .before .before .before .before .before .before .before .before .before .before .before .args in
-    let runs = c .before .before .before .before .before .before .before .before .before .before .before .before .before .before .before .state .given .1 in
-    let lent = rw runs at (c .before .before .before .before .before .before .before .before .before .before .before .before .before .before .before .before .before .before .before .pre .1) in
+    let a = c .before .before .before .before .before .before .before .before .before .before .before .before .before .before .before .before .before .before .before .before .args in
+    let runs = c .before .before .before .before .before .before .before .before .before .before .before .before .before .before .before .before .state .given .1 in
+    let lent = rw runs at (c .before .before .before .before .before .before .before .before .before .before .before .before .before .before .before .before .before .before .before .before .pre .1) in
     let t = c .before .before .before .before .before .before .take-request .ensures in
     rw (runs, ← (c .before .before .before .before .before .before .before .before .before .next-segment .ensures)) (
       (λ i. record { job = t .0 i; waits = a .entry .waits }),
