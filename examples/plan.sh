@@ -1,4 +1,4 @@
-# Writes the records of a plan as bytes: source this file, then call device, area and sub_area with a record's fields.
+# Writes the records of a plan as bytes: source this file, then call device, area, sub_area and wear with a record's fields.
 
 # le VALUE WIDTH: the number in WIDTH bytes, the least significant first
 le() {
@@ -30,4 +30,10 @@ sub_area() {
     le "$4" 4; le "$5" 4; le "$6" 4; le "$7" 4; le "$8" 4; le "$9" 4
     shift 9
     le "$1" 4; le "$2" 1; le "$3" 1
+}
+
+# wear SUB_AREA ENDURANCE: the cycles that each sector of the sub-area endures, behind all other records
+wear() {
+    printf 'WR'
+    le "$1" 1; le "$2" 4
 }

@@ -101,6 +101,8 @@ plan_four | keep runs/devices/plan.bin
 plan_both | keep runs/suspends/plan.bin
 plan_marks | keep runs/clears/plan.bin
 plan_w | keep runs/bursts/plan.bin
+{ plan_t 64 2 1 5; wear 0 7; } | keep runs/wear/plan.bin
+{ plan_t 64 2 1 5; wear 0 5; wear 0 6; } | keep runs/wear-repeated/plan.bin
 plan_store | keep runs/store/plan.bin
 plan_t 64 0 1 5 | keep runs/refused/plan.bin
 plan_t 65537 2 1 5 | keep runs/sum/plan.bin

@@ -11,6 +11,7 @@ ghost use Rattle.rounds.specs.laws.NeedLaws.{needsOf};
 ghost use Rattle.effects.specs.Effects.{memoryOf};
 ghost use Rattle.state.specs.Ages.{ageIn};
 use answers::take_answer;
+use answers::worn_by;
 use close::closed_area;
 use devices::state_on;
 use machine::soundness::runner;
@@ -77,13 +78,17 @@ pub fn run_round(
         let state = device.state;
         // the area that its request is for, or any: without a request it stays as it is
         let area = runner(state);
+        let due = dues[area];
+        let place = worn_by(due);
+        let sub_area = sub_areas[place];
         let turn = take_answer(
             sub_areas,
             plan.sub_area_count,
             records[area],
             device_records[d],
+            sub_area.erase.unit,
             areas[area],
-            dues[area],
+            due,
             device,
             answers[d],
             image,
@@ -92,12 +97,10 @@ pub fn run_round(
         let entry = turn.area;
         let due = turn.due;
         let device = turn.device;
-        let worn = turn.worn;
-        let place = worn.sub_area as usize;
         areas[area] = entry;
         dues[area] = due;
         devices[d] = device;
-        wear[place] = worn_to(wear[place], worn.sectors);
+        wear[place] = worn_to(wear[place], turn.sectors);
         d += 1;
     }
     let needs = needed_devices(dues);

@@ -1,52 +1,35 @@
 use mathlib.Core.Path.{refl}
-use native.Mathlib.Omega.{arith}
 use borrow.Author.Needs.{needs}
 use Rattle.answers.proofs.take_answer.Statement.{statement}
 use Rattle.answers.proofs.take_answer.Tie as tie
 use Rattle.answers.proofs.take_answer.Reads as reads
 use Rattle.answers.proofs.take_answer.Lts as lts
-use Rattle.answers.proofs.Worn.none.Reads as none-reads
 use Rattle.requests.proofs.next_segment.Reads as next-segment-reads
 use Rattle.requests.proofs.take_request.Reads as take-request-reads
 
 enum-told : tie.Need-enum-told
 enum-told c = search needs
 
-none-requires : tie.Need-none-requires
-none-requires c κs = search needs
-
 enum-told-2 : tie.Need-enum-told-2
 enum-told-2 c = search needs
 
-none-requires-2 : tie.Need-none-requires-2
-none-requires-2 c κs = search needs
-
 enum-known-state : tie.Need-enum-known-state
 enum-known-state c = search needs
-
-cast-place : tie.Need-cast-place
-cast-place c = search needs
-
-mul-place : tie.Need-mul-place
-mul-place c = search needs
-
-array-copy-out-place : tie.Need-array-copy-out-place
-array-copy-out-place c = let lent = rw (c .before .before .before .before .before .state .given .1) at (c .before .before .before .before .before .before .before .before .before .pre .1) in lent .3
 
 cast-next-segment : tie.Need-cast-next-segment
 cast-next-segment c = search needs
 
 next-segment-requires : tie.Need-next-segment-requires
-next-segment-requires c κs = let lent = rw (c .before .before .before .before .before .before .state .given .1) at (c .before .before .before .before .before .before .before .before .before .before .pre .1) in (c .before .before .before .before .before .before .before .before .before .before .pre .0, lent .2)
+next-segment-requires c κs = let lent = rw (c .before .before .before .before .state .given .1) at (c .before .before .before .before .before .before .before .before .pre .1) in (c .before .before .before .before .before .before .before .before .pre .0, lent .2)
 
 take-request-requires : tie.Need-take-request-requires
-take-request-requires c κs = let lent = rw (c .before .before .before .before .before .before .before .before .before .state .given .1) at (c .before .before .before .before .before .before .before .before .before .before .before .before .before .pre .1) in (lent .0, lent .1, lent .2)
+take-request-requires c κs = let lent = rw (c .before .before .before .before .before .before .before .state .given .1) at (c .before .before .before .before .before .before .before .before .before .before .before .pre .1) in lent
 
 returns : tie.Need-returns
-returns c = rw (c .before .enum-told .given .1, c .none .ensures) (refl, (refl, (refl, ((refl, omega arith), (refl, refl)))))
+returns c = rw (c .enum-told .given .1) (refl, (refl, (refl, (refl, (refl, refl)))))
 
 returns-2 : tie.Need-returns-2
-returns-2 c = rw (c .before .enum-told2 .given .1, c .none2 .ensures) (refl, (refl, (refl, ((refl, omega arith), (refl, refl)))))
+returns-2 c = rw (c .enum-told2 .given .1) (refl, (refl, (refl, (refl, (refl, refl)))))
 
 same-length : tie.Need-same-length
 same-length c = search needs
@@ -56,18 +39,13 @@ same-length-2 c = search needs
 
 returns-3 : tie.Need-returns-3
 returns-3 c =
-    let a = c .before .before .before .before .before .before .before .before .before .before .before .before .before .before .before .before .before .before .before .before .args in
-    let runs = c .before .before .before .before .before .before .before .before .before .before .before .before .before .before .before .before .state .given .1 in
-    let lent = rw runs at (c .before .before .before .before .before .before .before .before .before .before .before .before .before .before .before .before .before .before .before .before .pre .1) in
+    let a = c .before .before .before .before .before .before .before .before .before .before .before .before .before .before .before .before .before .before .args in
     let t = c .before .before .before .before .before .before .take-request .ensures in
-    rw (runs, ← (c .before .before .before .before .before .before .before .before .before .next-segment .ensures)) (
+    rw (c .before .before .before .before .before .before .before .before .before .before .before .before .before .before .state .given .1, ← (c .before .before .before .before .before .before .before .before .before .next-segment .ensures)) (
       (λ i. record { job = t .0 i; waits = a .entry .waits }),
       (
         t .1 .0,
-        (
-          (λ i. record { state = t .1 .1 .0 i; suspended = a .device .suspended }),
-          (((λ i. record { «sub_area» = a .due .«sub_area»; sectors = t .1 .1 .1 .0 i }), lent .3), (t .1 .1 .1 .1 .0, t .1 .1 .1 .1 .1)),
-        ),
+        ((λ i. record { state = t .1 .1 .0 i; suspended = a .device .suspended }), (t .1 .1 .1 .0, (t .1 .1 .1 .1 .0, t .1 .1 .1 .1 .1))),
       ),
     )
 
@@ -76,13 +54,8 @@ take-answer-spec =
     tie.close
     (tie.spec
     enum-told
-    none-requires
     enum-told-2
-    none-requires-2
     enum-known-state
-    cast-place
-    mul-place
-    array-copy-out-place
     cast-next-segment
     next-segment-requires
     take-request-requires

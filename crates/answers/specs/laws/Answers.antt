@@ -1,10 +1,10 @@
 -- What a device's answer makes of the device, and of area, due segment and memory of its request.
-use Prim.Native.Nat.{ℕ, _+_, _≤_, _<_}
+use Prim.Native.Nat.{ℕ, _+_, _≤_}
 use mathlib.Core.List.{List}
 use lib.Dec.{leb}
 use lib.ListN.{length}
+use Rattle.arith.specs.Cases.{pick}
 use Rattle.memory.specs.declared.DeviceAnswer.{DeviceAnswer}
-use Rattle.plan.specs.Questions.{subAreaOf}
 use Rattle.plan.specs.declared.records.AreaRecord.{AreaRecord}
 use Rattle.plan.specs.declared.records.DeviceRecord.{DeviceRecord}
 use Rattle.plan.specs.declared.records.SubAreaRecord.{SubAreaRecord}
@@ -16,9 +16,8 @@ use Rattle.state.specs.declared.DeviceState.{DeviceState}
 use Rattle.state.specs.declared.DeviceState.the-variants.{Free, Runs, LockedFor}
 use Rattle.effects.specs.Effects.{lentEnd}
 use Rattle.requests.specs.Requests.{takenState, takenWith, dueWith, nextOf, sectorsDone}
-use Rattle.answers.specs.declared.Worn.{Worn}
 
--- image and store hold what a running request needs of them, and its sub-area is one that a plan has room for
+-- image and store hold what a running request needs of them
 abbrev pub Lent : AreaRecord → Area → Segment → List ℕ → List ℕ → DeviceState → Type 0
 Lent place x s image store Free = Unit
 Lent place x s image store (LockedFor a) = Unit
@@ -26,13 +25,12 @@ Lent place x s image store (Runs a polls) =
     (s .start .0 + s .length ≤ length image)
     × (lentEnd (x .job .task .kind) (place .window .start + x .job .processed) (s .length) ≤ length store)
     × (x .job .processed + s .length ≤ x .job .task .length)
-    × (s .«sub_area» < 32)
 
 -- what answer y comes to
 abbrev turnVerdict : AreaRecord → Area → Segment → DeviceAnswer → Memory → Verdict
 turnVerdict place x s y m = verdictOf y (x .job .task .kind) (s .start .0) (place .window .start + x .job .processed) (s .length) m
 
--- area, due segment, device, wear and memory after the answer
+-- area, due segment and device after the answer, the sectors that were erased, and the memory
 abbrev pub turnArea : List SubAreaRecord → ℕ → AreaRecord → DeviceRecord → Area → Segment → DeviceAnswer → Memory → DeviceState → Area
 turnArea l n place holder x s y m Free = x
 turnArea l n place holder x s y m (LockedFor a) = x
@@ -52,14 +50,14 @@ turnState place holder x s y m Free = Free
 turnState place holder x s y m (LockedFor a) = LockedFor a
 turnState place holder x s y m (Runs a polls) = takenState a polls (turnVerdict place x s y m) (leb (holder .«poll_limit») (polls + 1))
 
-abbrev pub turnWorn : List SubAreaRecord → AreaRecord → Area → Segment → DeviceAnswer → Memory → DeviceState → Worn
-turnWorn l place x s y m Free = record { «sub_area» = 0; sectors = 0 }
-turnWorn l place x s y m (LockedFor a) = record { «sub_area» = 0; sectors = 0 }
-turnWorn l place x s y m (Runs a polls) =
-    record {
-      «sub_area» = s .«sub_area»;
-      sectors = sectorsDone (turnVerdict place x s y m) (x .job .task .kind) (s .length) (subAreaOf l (s .«sub_area») .erase .unit);
-    }
+-- the sum that a segment wears
+abbrev pub wornBy : Segment → ℕ
+wornBy s = pick (leb 32 (s .«sub_area»)) 0 (s .«sub_area»)
+
+abbrev pub turnSectors : AreaRecord → ℕ → Area → Segment → DeviceAnswer → Memory → DeviceState → ℕ
+turnSectors place sector x s y m Free = 0
+turnSectors place sector x s y m (LockedFor a) = 0
+turnSectors place sector x s y m (Runs a polls) = sectorsDone (turnVerdict place x s y m) (x .job .task .kind) (s .length) sector
 
 abbrev pub turnMemory : AreaRecord → DeviceRecord → Area → Segment → DeviceAnswer → Memory → DeviceState → Memory
 turnMemory place holder x s y m Free = m

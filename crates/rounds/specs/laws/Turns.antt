@@ -4,7 +4,7 @@ use mathlib.Core.Bool.{true}
 use mathlib.Core.List.{List}
 use mathlib.Core.Path.{_≡_, refl, sym, ap, subst, _∙_}
 use native.Mathlib.Omega.{arith}
-use borrow.Author.Tests.{lt-ltb}
+use borrow.Author.Tests.{lt-ltb, lt-leb}
 use lib.ListN.{length, getD, set}
 use Rattle.arith.specs.Parts.{upd, upd-case}
 use Rattle.devices.specs.laws.ArrayLaws.{view-set, job-set}
@@ -12,7 +12,7 @@ use Rattle.machine.specs.laws.Dues.{Due, runnerOf}
 use Rattle.devices.specs.Arrays.{jobIn, deviceIn, stateIn, coreIn}
 use Rattle.machine.specs.Sound.{requestSound, stateSound}
 use Rattle.memory.specs.declared.DeviceAnswer.{DeviceAnswer}
-use Rattle.plan.specs.Questions.{areaOf, deviceOf}
+use Rattle.plan.specs.Questions.{areaOf, deviceOf, subAreaOf}
 use Rattle.plan.specs.declared.records.AreaRecord.{AreaRecord}
 use Rattle.plan.specs.declared.records.DeviceRecord.{DeviceRecord}
 use Rattle.plan.specs.declared.records.Plan.{Plan}
@@ -33,8 +33,7 @@ use Rattle.state.specs.declared.DeviceState.{DeviceState}
 use Rattle.state.specs.declared.DeviceState.the-variants.{Free, Runs, LockedFor}
 use Rattle.state.specs.declared.Job.{Job}
 use Rattle.requests.specs.Requests.{Fits, request-fits, job-taken, due-taken, state-taken, memory-taken, found-fits}
-use Rattle.answers.specs.declared.Worn.{Worn}
-use Rattle.answers.specs.laws.Answers.{Lent, turnArea, turnState, turnDue, turnWorn, turnMemory}
+use Rattle.answers.specs.laws.Answers.{Lent, turnArea, turnState, turnDue, wornBy, turnSectors, turnMemory}
 use Rattle.wear.specs.Wear.{mostWear, wornTo}
 use Rattle.rounds.specs.laws.AnswerLaws.{core-kept, free-core, free-memory, locked-core, locked-memory, runs-core, runs-memory}
 use Rattle.rounds.specs.laws.Halves.{both}
@@ -80,12 +79,11 @@ module _ (p : Plan) (few : p .«area_count» ≤ 8) (d : ℕ) (y : DeviceAnswer)
     runs-due : due a ≡ segmentAt p a (jobIn areas a .task) (jobIn areas a .processed)
     runs-due = found a runs-known runs-pending
 
-  turn-lent : p .«sub_area_count» ≤ 32 → (x : DeviceState) → stateIn devices d ≡ x → (k : ℕ) → k ≡ runnerOf x → Lent (areaOf (p .areas) k) (entry k) (due k) image store x
-  turn-lent room Free e k f = tt
-  turn-lent room (LockedFor a) e k f = tt
-  turn-lent room (Runs a polls) e k f =
-      let fit = found-fits p d a polls (jobIn areas a) y m (due a) (runs-due a polls e) (holds a polls e) in
-      rw (f, lt-ltb a 8 (runs-known a polls e)) (fit .0, fit .1, fit .2, rw (runs-due a polls e) (sub-area-room p room a _ _))
+  turn-lent : (x : DeviceState) → stateIn devices d ≡ x → (k : ℕ) → k ≡ runnerOf x → Lent (areaOf (p .areas) k) (entry k) (due k) image store x
+  turn-lent Free e k f = tt
+  turn-lent (LockedFor a) e k f = tt
+  turn-lent (Runs a polls) e k f =
+      rw (f, lt-ltb a 8 (runs-known a polls e)) (found-fits p d a polls (jobIn areas a) y m (due a) (runs-due a polls e) (holds a polls e))
 
   turn-memory : (x : DeviceState) → stateIn devices d ≡ x → (k : ℕ) → k ≡ runnerOf x →
       turnMemory (areaOf (p .areas) k) (deviceOf (p .devices) d) (entry k) (due k) y m x ≡ takeIn p d y (lentTo areas devices m) .memory
@@ -95,18 +93,25 @@ module _ (p : Plan) (few : p .«area_count» ≤ 8) (d : ℕ) (y : DeviceAnswer)
       rw (f, lt-ltb a 8 (runs-known a polls e))
       (memory-taken p d a polls (jobIn areas a) y m (due a) (runs-due a polls e) ∙ runs-memory p d y areas devices m a polls e)
 
-  -- the sums with what the turn erased are those of the rules
-  turn-wear : (x : DeviceState) → stateIn devices d ≡ x → (k : ℕ) → k ≡ runnerOf x → (es : List Segment) (start w : List ℕ) → w ≡ wearAfter p es start →
-      (o : Worn) → o ≡ turnWorn (p .«sub_areas») (areaOf (p .areas) k) (entry k) (due k) y m x → getD w (o .«sub_area») 0 ≤ mostWear →
-      set w (o .«sub_area») (wornTo (getD w (o .«sub_area») 0) (o .sectors)) ≡ wearAfter p (erasesOn p x (verdictOn p x y (jobIn areas) m) (jobIn areas) es) start
-  unfolding layoutOf
-  turn-wear Free e k f es start w g o = λ h. rw h (λ b. wear-kept w 0 b ∙ g)
-  turn-wear (LockedFor a) e k f es start w g o = λ h. rw h (λ b. wear-kept w 0 b ∙ g)
-  turn-wear (Runs a polls) e k f es start w g o =
-      rw (f, lt-ltb a 8 (runs-known a polls e), ← (runs-due a polls e))
-      (λ h. rw h (λ b.
-      worn-turn p (jobIn areas a .task .kind) (due a) es start w g b
-      (verdictOf y (jobIn areas a .task .kind) (due a .start .0) (areaOf (p .areas) a .window .start + jobIn areas a .processed) (due a .length) m)))
+  -- the sums with what the turn erased are those of the rules: i is the place of the segment's sub-area, n the sectors
+  module _ (room : p .«sub_area_count» ≤ 32) (es : List Segment) (start w : List ℕ) (was : w ≡ wearAfter p es start) (i : ℕ) (below : getD w i 0 ≤ mostWear) where
+    -- the sub-area of a request that runs has a place
+    runs-place : (a polls : ℕ) → stateIn devices d ≡ Runs a polls → wornBy (due a) ≡ due a .«sub_area»
+    runs-place a polls e = rw (lt-leb 32 (due a .«sub_area») (rw (runs-due a polls e) (sub-area-room p room a _ _)))
+
+    turn-wear : (x : DeviceState) → stateIn devices d ≡ x → (k : ℕ) → k ≡ runnerOf x → i ≡ wornBy (due k) → (n : ℕ) →
+        n ≡ turnSectors (areaOf (p .areas) k) (subAreaOf (p .«sub_areas») i .erase .unit) (entry k) (due k) y m x →
+        set w i (wornTo (getD w i 0) n) ≡ wearAfter p (erasesOn p x (verdictOn p x y (jobIn areas) m) (jobIn areas) es) start
+    unfolding layoutOf
+    turn-wear Free e k f g n = λ h. rw h (wear-kept w i below ∙ was)
+    turn-wear (LockedFor a) e k f g n = λ h. rw h (wear-kept w i below ∙ was)
+    turn-wear (Runs a polls) e k f g n =
+        let here : i ≡ due a .«sub_area» = g ∙ ap (λ b. wornBy (due b)) (f ∙ rw (lt-ltb a 8 (runs-known a polls e)) refl) ∙ runs-place a polls e in
+        rw (f, lt-ltb a 8 (runs-known a polls e), ← (runs-due a polls e))
+        (λ h.
+        rw (h, here)
+        (worn-turn p (jobIn areas a .task .kind) (due a) es start w was (rw here at below)
+        (verdictOf y (jobIn areas a .task .kind) (due a .start .0) (areaOf (p .areas) a .window .start + jobIn areas a .processed) (due a .length) m)))
 
   module _ (areas-are : length areas ≡ 8) (devices-are : length devices ≡ 4) (dues-are : length dues ≡ 8) (there : d < 4) where
     kept : {x : DeviceState} → x ≡ stateIn devices d → doing x (deviceIn devices d) ≡ deviceIn devices d
@@ -150,14 +155,15 @@ module _ (p : Plan) (few : p .«area_count» ≤ 8) (d : ℕ) (y : DeviceAnswer)
   -- the same for the arrays that the code has copied from the plan
   module _ (l : List SubAreaRecord) (records : List AreaRecord) (holders : List DeviceRecord) (l-is : l ≡ p .«sub_areas») (records-are : records ≡ p .areas)
       (holders-are : holders ≡ p .devices) (k : ℕ) (k-is : k ≡ runnerOf (stateIn devices d)) where
-    pub lent-turn : p .«sub_area_count» ≤ 32 → Lent (areaOf records k) (entry k) (due k) image store (stateIn devices d)
-    lent-turn room = rw records-are (turn-lent room (stateIn devices d) refl k k-is)
+    pub lent-turn : Lent (areaOf records k) (entry k) (due k) image store (stateIn devices d)
+    lent-turn = rw records-are (turn-lent (stateIn devices d) refl k k-is)
 
-    pub wear-turn : (es : List Segment) (start w : List ℕ) → w ≡ wearAfter p es start → (o : Worn) →
-        o ≡ turnWorn l (areaOf records k) (entry k) (due k) y m (stateIn devices d) → getD w (o .«sub_area») 0 ≤ mostWear →
-        set w (o .«sub_area») (wornTo (getD w (o .«sub_area») 0) (o .sectors))
+    pub wear-turn : p .«sub_area_count» ≤ 32 → (es : List Segment) (start w : List ℕ) → w ≡ wearAfter p es start → (i : ℕ) → getD w i 0 ≤ mostWear →
+        i ≡ wornBy (due k) → (n : ℕ) → n ≡ turnSectors (areaOf records k) (subAreaOf l i .erase .unit) (entry k) (due k) y m (stateIn devices d) →
+        set w i (wornTo (getD w i 0) n)
         ≡ wearAfter p (erasesOn p (stateIn devices d) (verdictOn p (stateIn devices d) y (jobIn areas) m) (jobIn areas) es) start
-    wear-turn es start w g o = rw (l-is, records-are) (turn-wear (stateIn devices d) refl k k-is es start w g o)
+    wear-turn room es start w was i below g n =
+        rw (l-is, records-are) (turn-wear room es start w was i below (stateIn devices d) refl k k-is g n)
 
     -- what the turn leaves: arrays and memory are those of the rules, and the due segments go along
     pub whole-turn : length areas ≡ 8 → length devices ≡ 4 → length dues ≡ 8 → d < 4 → (r : Area) (s : Segment) (z : Device) (i t : List ℕ) →

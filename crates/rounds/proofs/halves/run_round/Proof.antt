@@ -25,6 +25,7 @@ use Rattle.rounds.proofs.halves.run_round.Tie as tie
 use Rattle.rounds.proofs.halves.run_round.Reads as reads
 use Rattle.rounds.proofs.halves.run_round.Lts as lts
 use Rattle.answers.proofs.take_answer.Reads as take-answer-reads
+use Rattle.answers.proofs.worn_by.Reads as worn-by-reads
 use Rattle.close.proofs.closed_area.Reads as closed-area-reads
 use Rattle.devices.proofs.state_on.Reads as state-on-reads
 use Rattle.machine.proofs.soundness.runner.Reads as runner-reads
@@ -76,6 +77,21 @@ array-copy-out-device c = omega (arith, c .before .before .loop .inv .0, c .if1 
 runner-requires : tie.Need-runner-requires Inv-loop μ-loop Inv-loop2 μ-loop2 Inv-loop3 μ-loop3
 runner-requires c κs = search needs
 
+mul-due : tie.Need-mul-due Inv-loop μ-loop Inv-loop2 μ-loop2 Inv-loop3 μ-loop3
+mul-due c = search needs
+
+array-copy-out-due : tie.Need-array-copy-out-due Inv-loop μ-loop Inv-loop2 μ-loop2 Inv-loop3 μ-loop3
+array-copy-out-due c = search needs
+
+worn-by-requires : tie.Need-worn-by-requires Inv-loop μ-loop Inv-loop2 μ-loop2 Inv-loop3 μ-loop3
+worn-by-requires c κs = search needs
+
+mul-sub-area : tie.Need-mul-sub-area Inv-loop μ-loop Inv-loop2 μ-loop2 Inv-loop3 μ-loop3
+mul-sub-area c = search needs
+
+array-copy-out-sub-area : tie.Need-array-copy-out-sub-area Inv-loop μ-loop Inv-loop2 μ-loop2 Inv-loop3 μ-loop3
+array-copy-out-sub-area c = search needs
+
 mul-take-answer : tie.Need-mul-take-answer Inv-loop μ-loop Inv-loop2 μ-loop2 Inv-loop3 μ-loop3
 mul-take-answer c = search needs
 
@@ -83,10 +99,10 @@ array-copy-out-take-answer : tie.Need-array-copy-out-take-answer Inv-loop μ-loo
 array-copy-out-take-answer c = search needs
 
 mul-take-answer-2 : tie.Need-mul-take-answer-2 Inv-loop μ-loop Inv-loop2 μ-loop2 Inv-loop3 μ-loop3
-mul-take-answer-2 c = omega (arith, c .before .before .before .before .before .loop .inv .0, c .before .before .before .if1 .taken)
+mul-take-answer-2 c = omega (arith, c .before .before .before .before .before .before .before .before .loop .inv .0, c .before .before .before .before .before .before .if1 .taken)
 
 array-copy-out-take-answer-2 : tie.Need-array-copy-out-take-answer-2 Inv-loop μ-loop Inv-loop2 μ-loop2 Inv-loop3 μ-loop3
-array-copy-out-take-answer-2 c = omega (arith, c .before .before .before .before .before .loop .inv .0, c .before .before .before .if1 .taken)
+array-copy-out-take-answer-2 c = omega (arith, c .before .before .before .before .before .before .before .before .loop .inv .0, c .before .before .before .before .before .before .if1 .taken)
 
 mul-take-answer-3 : tie.Need-mul-take-answer-3 Inv-loop μ-loop Inv-loop2 μ-loop2 Inv-loop3 μ-loop3
 mul-take-answer-3 c = search needs
@@ -95,42 +111,34 @@ array-copy-out-take-answer-3 : tie.Need-array-copy-out-take-answer-3 Inv-loop μ
 array-copy-out-take-answer-3 c = search needs
 
 mul-take-answer-4 : tie.Need-mul-take-answer-4 Inv-loop μ-loop Inv-loop2 μ-loop2 Inv-loop3 μ-loop3
-mul-take-answer-4 c = search needs
+mul-take-answer-4 c = omega (arith, c .before .before .before .before .before .before .before .before .before .before .loop .inv .0, c .before .before .before .before .before .before .before .before .if1 .taken)
 
 array-copy-out-take-answer-4 : tie.Need-array-copy-out-take-answer-4 Inv-loop μ-loop Inv-loop2 μ-loop2 Inv-loop3 μ-loop3
-array-copy-out-take-answer-4 c = search needs
-
-mul-take-answer-5 : tie.Need-mul-take-answer-5 Inv-loop μ-loop Inv-loop2 μ-loop2 Inv-loop3 μ-loop3
-mul-take-answer-5 c = omega (arith, c .before .before .before .before .before .before .before .before .loop .inv .0, c .before .before .before .before .before .before .if1 .taken)
-
-array-copy-out-take-answer-5 : tie.Need-array-copy-out-take-answer-5 Inv-loop μ-loop Inv-loop2 μ-loop2 Inv-loop3 μ-loop3
-array-copy-out-take-answer-5 c = omega (arith, c .before .before .before .before .before .before .before .before .loop .inv .0, c .before .before .before .before .before .before .if1 .taken)
+array-copy-out-take-answer-4 c = omega (arith, c .before .before .before .before .before .before .before .before .before .before .loop .inv .0, c .before .before .before .before .before .before .before .before .if1 .taken)
 
 take-answer-requires : tie.Need-take-answer-requires Inv-loop μ-loop Inv-loop2 μ-loop2 Inv-loop3 μ-loop3
 take-answer-requires c κs =
-    let s = c .before .before .before .before .before .before .before .before .before .before .before .before .before .before .before .before .before in
+    let s = c .before .before .before .before .before .before .before .before .before .before .before .before .before .before .before .before .before .before .before in
     let p = s .args .plan in
-    let l = c .before .before .before .before .before .before .before .before .before .before .before .loop in (
+    let l = c .before .before .before .before .before .before .before .before .before .before .before .before .before .loop in
+    let r = c .before .before .before .before .before .before .before .before .before .runner in (
       l .inv .2,
       lent-turn p (l .inv .1) (l .d) (answerFor (s .args .t2) (l .d)) (l .areas) (l .devices) (l .dues) (l .image) (l .store)
-          (turn-sound p (s .args .t3) (s .args .t4) (s .pre .0) (s .args .t2) (memoryOf (s .args .image .now) (s .args .store .now)) (l .d) (coreIn (l .areas) (l .devices)) (ap (λ x. x .0) (l .inv .12)) (c .before .before .before .before .before .before .before .before .before .if1 .taken))
-          (image-again _ _ _ (l .inv .7) (s .pre .1)) (store-again _ _ _ (l .inv .8) (s .pre .2)) (l .inv .13) _ _ _ (l .inv .4) (l .inv .5) (l .inv .6) (c .before .before .before .before .before .before .before .runner .result) (c .before .before .before .before .before .before .before .runner .ensures .0) (l .inv .2),
+          (turn-sound p (s .args .t3) (s .args .t4) (s .pre .0) (s .args .t2) (memoryOf (s .args .image .now) (s .args .store .now)) (l .d) (coreIn (l .areas) (l .devices)) (ap (λ x. x .0) (l .inv .12)) (c .before .before .before .before .before .before .before .before .before .before .before .if1 .taken))
+          (image-again _ _ _ (l .inv .7) (s .pre .1)) (store-again _ _ _ (l .inv .8) (s .pre .2)) (l .inv .13) _ _ _ (l .inv .4) (l .inv .5) (l .inv .6) (r .result) (r .ensures .0),
     )
 
-cast-place : tie.Need-cast-place Inv-loop μ-loop Inv-loop2 μ-loop2 Inv-loop3 μ-loop3
-cast-place c = search needs
-
 mul-areas : tie.Need-mul-areas Inv-loop μ-loop Inv-loop2 μ-loop2 Inv-loop3 μ-loop3
-mul-areas c = search needs
+mul-areas c = omega (arith, c .before .before .before .before .before .before .before .before .before .before .before .before .before .before .before .before .before .runner .ensures .1, c .before .before .before .before .before .before .before .before .before .before .before .before .before .before .before .before .before .before .before .before .before .loop .inv .9, c .before .before .before .before .before .before .before .before .before .before .before .before .before .before .before .before .before .before .before .before .before .loop .inv .11)
 
 array-set-from-areas : tie.Need-array-set-from-areas Inv-loop μ-loop Inv-loop2 μ-loop2 Inv-loop3 μ-loop3
-array-set-from-areas c = search needs
+array-set-from-areas c = omega (arith, c .before .before .before .before .before .before .before .before .before .before .before .before .before .before .before .before .before .runner .ensures .1, c .before .before .before .before .before .before .before .before .before .before .before .before .before .before .before .before .before .before .before .before .before .loop .inv .9, c .before .before .before .before .before .before .before .before .before .before .before .before .before .before .before .before .before .before .before .before .before .loop .inv .11)
 
 mul-dues : tie.Need-mul-dues Inv-loop μ-loop Inv-loop2 μ-loop2 Inv-loop3 μ-loop3
-mul-dues c = search needs
+mul-dues c = omega (arith, c .before .before .before .before .before .before .before .before .before .before .before .before .before .before .before .before .before .runner .ensures .1, c .before .before .before .before .before .before .before .before .before .before .before .before .before .before .before .before .before .before .before .before .before .loop .inv .9, c .before .before .before .before .before .before .before .before .before .before .before .before .before .before .before .before .before .before .before .before .before .loop .inv .11)
 
 array-set-from-dues : tie.Need-array-set-from-dues Inv-loop μ-loop Inv-loop2 μ-loop2 Inv-loop3 μ-loop3
-array-set-from-dues c = search needs
+array-set-from-dues c = omega (arith, c .before .before .before .before .before .before .before .before .before .before .before .before .before .before .before .before .before .runner .ensures .1, c .before .before .before .before .before .before .before .before .before .before .before .before .before .before .before .before .before .before .before .before .before .loop .inv .9, c .before .before .before .before .before .before .before .before .before .before .before .before .before .before .before .before .before .before .before .before .before .loop .inv .11)
 
 mul-devices : tie.Need-mul-devices Inv-loop μ-loop Inv-loop2 μ-loop2 Inv-loop3 μ-loop3
 mul-devices c = omega (arith, c .before .before .before .before .before .before .before .before .before .before .before .before .before .before .before .before .before .before .before .before .before .loop .inv .0, c .before .before .before .before .before .before .before .before .before .before .before .before .before .before .before .before .before .before .before .if1 .taken)
@@ -139,19 +147,19 @@ array-set-from-devices : tie.Need-array-set-from-devices Inv-loop μ-loop Inv-lo
 array-set-from-devices c = omega (arith, c .before .before .before .before .before .before .before .before .before .before .before .before .before .before .before .before .before .before .before .before .before .loop .inv .0, c .before .before .before .before .before .before .before .before .before .before .before .before .before .before .before .before .before .before .before .if1 .taken)
 
 mul-worn-to : tie.Need-mul-worn-to Inv-loop μ-loop Inv-loop2 μ-loop2 Inv-loop3 μ-loop3
-mul-worn-to c = omega (arith, c .before .before .before .before .before .before .before .before .before .take-answer .ensures .1 .1 .1 .0 .1)
+mul-worn-to c = omega (arith, c .before .before .before .before .before .before .before .before .before .before .before .before .before .before .before .worn-by .ensures .1)
 
 array-read-worn-to : tie.Need-array-read-worn-to Inv-loop μ-loop Inv-loop2 μ-loop2 Inv-loop3 μ-loop3
-array-read-worn-to c = omega (arith, c .before .before .before .before .before .before .before .before .before .before .before .before .before .before .before .before .before .before .before .before .before .loop .inv .14, c .before .before .before .before .before .before .before .before .before .take-answer .ensures .1 .1 .1 .0 .1)
+array-read-worn-to c = omega (arith, c .before .before .before .before .before .before .before .before .before .before .before .before .before .before .before .before .before .before .before .before .before .loop .inv .14, c .before .before .before .before .before .before .before .before .before .before .before .before .before .before .before .worn-by .ensures .1)
 
 worn-to-requires : tie.Need-worn-to-requires Inv-loop μ-loop Inv-loop2 μ-loop2 Inv-loop3 μ-loop3
 worn-to-requires c κs = search needs
 
 mul-wear : tie.Need-mul-wear Inv-loop μ-loop Inv-loop2 μ-loop2 Inv-loop3 μ-loop3
-mul-wear c = omega (arith, c .before .before .before .before .before .before .before .before .before .before .take-answer .ensures .1 .1 .1 .0 .1)
+mul-wear c = omega (arith, c .before .before .before .before .before .before .before .before .before .before .before .before .before .before .before .before .worn-by .ensures .1)
 
 array-write-wear : tie.Need-array-write-wear Inv-loop μ-loop Inv-loop2 μ-loop2 Inv-loop3 μ-loop3
-array-write-wear c = omega (arith, c .before .before .before .before .before .before .before .before .before .before .before .before .before .before .before .before .before .before .before .before .before .before .loop .inv .14, c .before .before .before .before .before .before .before .before .before .before .take-answer .ensures .1 .1 .1 .0 .1)
+array-write-wear c = omega (arith, c .before .before .before .before .before .before .before .before .before .before .before .before .before .before .before .before .before .before .before .before .before .before .loop .inv .14, c .before .before .before .before .before .before .before .before .before .before .before .before .before .before .before .before .worn-by .ensures .1)
 
 add-d : tie.Need-add-d Inv-loop μ-loop Inv-loop2 μ-loop2 Inv-loop3 μ-loop3
 add-d c = omega (arith, c .before .before .before .before .before .before .before .before .before .before .before .before .before .before .before .before .before .before .before .before .before .before .loop .inv .0, c .before .before .before .before .before .before .before .before .before .before .before .before .before .before .before .before .before .before .before .before .if1 .taken)
@@ -166,7 +174,8 @@ loop-again c =
     let l = c .before .before .before .before .before .before .before .before .before .before .before .before .before .before .before .before .before .before .before .before .before .before .loop in
     let more = c .before .before .before .before .before .before .before .before .before .before .before .before .before .before .before .before .before .before .before .before .if1 .taken in
     let r = c .before .before .before .before .before .before .before .before .before .before .before .before .before .before .before .before .before .before .runner in
-    let t = c .before .before .before .before .before .before .before .before .before .before .take-answer in
+    let t = c .before .before .before .before .before .before .before .before .take-answer in
+    let place = c .before .before .before .before .before .before .before .before .before .before .before .before .before .before .before .before .worn-by in
     let lent = lentTo (s .args .t3) (s .args .t4) (memoryOf (s .args .image .now) (s .args .store .now)) in
     let sound = turn-sound p (s .args .t3) (s .args .t4) (s .pre .0) (s .args .t2) (memoryOf (s .args .image .now) (s .args .store .now)) (l .d) (coreIn (l .areas) (l .devices)) (ap (λ x. x .0) (l .inv .12)) more in
     let turn = whole-turn p (l .inv .1) (l .d) (answerFor (s .args .t2) (l .d)) (l .areas) (l .devices) (l .dues) (l .image) (l .store) sound
@@ -174,7 +183,7 @@ loop-again c =
     (t .result .area) (t .result .due) (t .result .device) _ _ (t .ensures .0) (t .ensures .1 .0) (t .ensures .1 .1 .0) (t .ensures .1 .1 .1 .1 .0) (t .ensures .1 .1 .1 .1 .1) in
     let worn = wear-turn p (l .inv .1) (l .d) (answerFor (s .args .t2) (l .d)) (l .areas) (l .devices) (l .dues) (l .image) (l .store) sound
     (image-again _ _ _ (l .inv .7) (s .pre .1)) (store-again _ _ _ (l .inv .8) (s .pre .2)) (l .inv .13) _ _ _ (l .inv .4) (l .inv .5) (l .inv .6) (r .result) (r .ensures .0)
-    (erasesTo p (s .args .t2) (l .d) lent) (s .args .t7) (l .wear) (l .inv .15) (t .result .worn) (t .ensures .1 .1 .1 .0 .0) (c .worn-to .ensures .1) in (
+    (l .inv .2) (erasesTo p (s .args .t2) (l .d) lent) (s .args .t7) (l .wear) (l .inv .15) (place .result) (c .worn-to .ensures .1) (place .ensures .0) (t .result .sectors) (t .ensures .1 .1 .1 .0) in (
       l .inv .0,
       l .inv .1,
       l .inv .2,
@@ -182,15 +191,15 @@ loop-again c =
       l .inv .4,
       l .inv .5,
       l .inv .6,
-      omega (arith, l .inv .7, t .kept .1 .1 .1 .1 .1 .1 .1 .1 .0),
-      omega (arith, l .inv .8, t .kept .1 .1 .1 .1 .1 .1 .1 .1 .1 .0),
+      omega (arith, l .inv .7, t .kept .1 .1 .1 .1 .1 .1 .1 .1 .1 .0),
+      omega (arith, l .inv .8, t .kept .1 .1 .1 .1 .1 .1 .1 .1 .1 .1 .0),
       rw length-set (l .inv .9),
       rw length-set (l .inv .10),
       rw length-set (l .inv .11),
       turn .0 ∙ take-turn p (s .args .t2) lent (l .d) (coreIn (l .areas) (l .devices), memoryOf (l .image) (l .store)) (l .inv .12),
       turn .1,
       rw length-set (l .inv .14),
-      ap (set (l .wear) (t .result .worn .«sub_area»)) (c .worn-to .ensures .0) ∙ worn
+      ap (set (l .wear) (place .result)) (c .worn-to .ensures .0) ∙ worn
           ∙ ap (λ es. wearAfter p es (s .args .t7)) (erases-turn p (s .args .t2) lent (l .d) (coreIn (l .areas) (l .devices), memoryOf (l .image) (l .store)) (l .inv .12)),
     )
 
@@ -374,6 +383,11 @@ run-round-spec =
     mul-device
     array-copy-out-device
     runner-requires
+    mul-due
+    array-copy-out-due
+    worn-by-requires
+    mul-sub-area
+    array-copy-out-sub-area
     mul-take-answer
     array-copy-out-take-answer
     mul-take-answer-2
@@ -382,10 +396,7 @@ run-round-spec =
     array-copy-out-take-answer-3
     mul-take-answer-4
     array-copy-out-take-answer-4
-    mul-take-answer-5
-    array-copy-out-take-answer-5
     take-answer-requires
-    cast-place
     mul-areas
     array-set-from-areas
     mul-dues
