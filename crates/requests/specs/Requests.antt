@@ -31,7 +31,6 @@ use Rattle.state.specs.declared.DeviceState.{DeviceState}
 use Rattle.state.specs.declared.DeviceState.the-variants.{Free, Runs}
 use Rattle.state.specs.declared.Job.{Job}
 use Rattle.effects.specs.Effects.{lentEnd}
-use Rattle.wear.specs.Wear.{sectorsIn}
 
 -- The job and the device after a verdict. Test: is the request dropped where it goes on, since "polls reach the patience"?
 abbrev pub takenJob : Layout → ℕ → Verdict → Bool → Job → Job
@@ -65,15 +64,15 @@ dueWith s next finished = next
 dueWith s next differs = s
 dueWith s next failed = s
 
--- document 02, 05: "Each done erase adds the number of sectors in its piece": of length n, in a sub-area with this sector
+-- document 02, 05: "Each done erase": how many of its n bytes a request has erased that wears
 abbrev pub isFinished : Verdict → Bool
 isFinished finished = true
 isFinished goesOn = false
 isFinished differs = false
 isFinished failed = false
 
-abbrev pub sectorsDone : Verdict → JobType → ℕ → ℕ → ℕ
-sectorsDone v k n sector = pick (isFinished v) (pick (isErase k) (sectorsIn n sector) 0) 0
+abbrev pub erasedBy : Verdict → JobType → ℕ → ℕ
+erasedBy v k n = pick (isFinished v) (pick (isErase k) n 0) 0
 
 -- the segment behind s, which is due, where the answer may make it due
 abbrev pub nextOf : DeviceAnswer → List SubAreaRecord → ℕ → ℕ → ℕ → Job → Segment → Segment

@@ -5,7 +5,7 @@ ghost use lib.Dec.{leb};
 ghost use lib.ListN.{length};
 ghost use Rattle.rules.specs.Memory.{verdictOf, answeredMemory};
 ghost use Rattle.effects.specs.Effects.{verdict, lentEnd, memoryOf};
-ghost use Rattle.requests.specs.Requests.{takenState, nextOf, finishedWith, takenWith, dueWith, isFinished, sectorsDone};
+ghost use Rattle.requests.specs.Requests.{takenState, nextOf, finishedWith, takenWith, dueWith, isFinished, erasedBy};
 ghost use Rattle.segment.specs.Segments.{isErase};
 use effects::Outcome;
 use effects::take_effect;
@@ -21,14 +21,13 @@ use segment::no_segment;
 use segment::segment_from;
 use state::DeviceState;
 use state::Job;
-use wear::sectors_in;
 
-// A job, its due segment and its device when the job's request has taken an answer, and the sectors that the request erased.
+// A job, its due segment and its device when the job's request has taken an answer, and how many bytes the request has erased.
 pub struct Taken {
     pub job: Job,
     pub due: Segment,
     pub state: DeviceState,
-    pub sectors: u64,
+    pub erased: u64,
 }
 
 // With one poll more, is the request at its limit?
@@ -140,9 +139,9 @@ fn wears(job: Job) -> bool
     is_erase(kind)
 }
 
-// The sectors that a request of this length has erased: only one that is finished wears.
-fn sectors_done(job: Job, length: u64, sector: u32, outcome: Outcome) -> u64
-    ensures { λ r. ⌜ r ≡ sectorsDone (verdict outcome) (job .task .kind) length sector ⌝ }
+// What a request of this length has erased: only one that is finished wears.
+fn erased_by(job: Job, length: u64, outcome: Outcome) -> u64
+    ensures { λ r. ⌜ r ≡ erasedBy (verdict outcome) (job .task .kind) length ⌝ }
 {
     if !is_finished(outcome) {
         return 0;
@@ -150,17 +149,15 @@ fn sectors_done(job: Job, length: u64, sector: u32, outcome: Outcome) -> u64
     if !wears(job) {
         return 0;
     }
-    sectors_in(length, sector)
+    length
 }
 
 // The request that a device with this poll limit runs for an area takes its answer: it is the due segment of the area's job,
-// `next` is the one behind, and the area's window starts at `window` in the store. `clears`: the device only clears bits. `sector` is
-// that of the segment's sub-area.
+// `next` is the one behind, and the area's window starts at `window` in the store. `clears`: the device only clears bits.
 pub fn take_request(
     window: u32,
     limit: u16,
     clears: bool,
-    sector: u32,
     area: u8,
     polls: u16,
     job: Job,
@@ -174,7 +171,7 @@ pub fn take_request(
     ensures { λ r. ⌜ r .job ≡ takenWith (due .length) (next .retries) (verdictOf answer (job .task .kind) (due .start .0) (window + job .processed) (due .length) (memoryOf (now (image .entry)) (now (store .entry)))) (leb limit (polls + 1)) job ⌝ }
     ensures { λ r. ⌜ r .due ≡ dueWith due next (verdictOf answer (job .task .kind) (due .start .0) (window + job .processed) (due .length) (memoryOf (now (image .entry)) (now (store .entry)))) ⌝ }
     ensures { λ r. ⌜ r .state ≡ takenState area polls (verdictOf answer (job .task .kind) (due .start .0) (window + job .processed) (due .length) (memoryOf (now (image .entry)) (now (store .entry)))) (leb limit (polls + 1)) ⌝ }
-    ensures { λ r. ⌜ r .sectors ≡ sectorsDone (verdictOf answer (job .task .kind) (due .start .0) (window + job .processed) (due .length) (memoryOf (now (image .entry)) (now (store .entry)))) (job .task .kind) (due .length) sector ⌝ }
+    ensures { λ r. ⌜ r .erased ≡ erasedBy (verdictOf answer (job .task .kind) (due .start .0) (window + job .processed) (due .length) (memoryOf (now (image .entry)) (now (store .entry)))) (job .task .kind) (due .length) ⌝ }
     ensures { λ _. ⌜ now (image .exit) ≡ answeredMemory clears answer (job .task .kind) (due .start .0) (window + job .processed) (due .length) (memoryOf (now (image .entry)) (now (store .entry))) .image ⌝ }
     ensures { λ _. ⌜ now (store .exit) ≡ answeredMemory clears answer (job .task .kind) (due .start .0) (window + job .processed) (due .length) (memoryOf (now (image .entry)) (now (store .entry))) .store ⌝ }
 {
@@ -185,7 +182,7 @@ pub fn take_request(
     let n = due.length as usize;
     let outcome = take_effect(clears, answer, kind, at, place, n, image, store);
     let dropped = is_dropped(polls, limit);
-    let sectors = sectors_done(job, due.length, sector, outcome);
+    let erased = erased_by(job, due.length, outcome);
     let job = taken_job(job, due.length, next.retries, outcome, dropped);
     let due = taken_due(due, next, outcome);
     let state = taken_state(area, polls, limit, outcome);
@@ -193,6 +190,6 @@ pub fn take_request(
         job,
         due,
         state,
-        sectors,
+        erased,
     }
 }

@@ -11,7 +11,6 @@ ghost use Rattle.rounds.specs.laws.NeedLaws.{needsOf};
 ghost use Rattle.effects.specs.Effects.{memoryOf};
 ghost use Rattle.state.specs.Ages.{ageIn};
 use answers::take_answer;
-use answers::worn_by;
 use close::closed_area;
 use devices::state_on;
 use machine::soundness::runner;
@@ -24,6 +23,7 @@ use plan::records::Plan;
 use segment::Segment;
 use state::Area;
 use state::Device;
+use wear::sectors_in;
 use wear::worn_to;
 
 // What moves in a manager.
@@ -78,17 +78,13 @@ pub fn run_round(
         let state = device.state;
         // the area that its request is for, or any: without a request it stays as it is
         let area = runner(state);
-        let due = dues[area];
-        let place = worn_by(due);
-        let sub_area = sub_areas[place];
         let turn = take_answer(
             sub_areas,
             plan.sub_area_count,
             records[area],
             device_records[d],
-            sub_area.erase.unit,
             areas[area],
-            due,
+            dues[area],
             device,
             answers[d],
             image,
@@ -100,7 +96,14 @@ pub fn run_round(
         areas[area] = entry;
         dues[area] = due;
         devices[d] = device;
-        wear[place] = worn_to(wear[place], turn.sectors);
+        let erased = turn.erased;
+        // few turns finish an erase
+        if 0 < erased.length {
+            let place = erased.place();
+            let sub_area = sub_areas[place];
+            let sectors = sectors_in(erased.length, sub_area.erase.unit);
+            wear[place] = worn_to(wear[place], sectors);
+        }
         d += 1;
     }
     let needs = needed_devices(dues);

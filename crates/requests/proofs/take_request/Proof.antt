@@ -1,7 +1,7 @@
 use Prim.Native.Nat.{_+_}
 use lib.Dec.{leb}
 use mathlib.Core.Path.{ap, _∙_}
-use Rattle.requests.specs.Requests.{takenState, takenWith, dueWith, sectorsDone}
+use Rattle.requests.specs.Requests.{takenState, takenWith, dueWith, erasedBy}
 use borrow.Author.Needs.{needs}
 use Rattle.requests.proofs.take_request.Statement.{statement}
 use Rattle.requests.proofs.take_request.Tie as tie
@@ -9,7 +9,7 @@ use Rattle.requests.proofs.take_request.Reads as reads
 use Rattle.requests.proofs.take_request.Lts as lts
 use Rattle.effects.proofs.take_effect.Reads as take-effect-reads
 use Rattle.requests.proofs.is_dropped.Reads as is-dropped-reads
-use Rattle.requests.proofs.sectors_done.Reads as sectors-done-reads
+use Rattle.requests.proofs.erased_by.Reads as erased-by-reads
 use Rattle.requests.proofs.taken_due.Reads as taken-due-reads
 use Rattle.requests.proofs.taken_job.Reads as taken-job-reads
 use Rattle.requests.proofs.taken_state.Reads as taken-state-reads
@@ -26,8 +26,8 @@ take-effect-requires c κs = search needs
 is-dropped-requires : tie.Need-is-dropped-requires
 is-dropped-requires c κs = search needs
 
-sectors-done-requires : tie.Need-sectors-done-requires
-sectors-done-requires c κs = search needs
+erased-by-requires : tie.Need-erased-by-requires
+erased-by-requires c κs = search needs
 
 taken-job-requires : tie.Need-taken-job-requires
 taken-job-requires c κs = search needs
@@ -55,7 +55,7 @@ returns c =
         (
           c .taken-state .ensures ∙ ap (λ u. takenState (a .area) (a .polls) u (leb (a .limit) (a .polls + 1))) (effect .0),
           (
-            c .before .before .before .sectors-done .ensures ∙ ap (λ u. sectorsDone u (a .job .task .kind) (a .due .length) (a .sector)) (effect .0),
+            c .before .before .before .erased-by .ensures ∙ ap (λ u. erasedBy u (a .job .task .kind) (a .due .length)) (effect .0),
             (effect .1 .0, effect .1 .1),
           ),
         ),
@@ -70,7 +70,7 @@ take-request-spec =
     add-place
     take-effect-requires
     is-dropped-requires
-    sectors-done-requires
+    erased-by-requires
     taken-job-requires
     taken-due-requires
     taken-state-requires

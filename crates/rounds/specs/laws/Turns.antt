@@ -12,7 +12,7 @@ use Rattle.machine.specs.laws.Dues.{Due, runnerOf}
 use Rattle.devices.specs.Arrays.{jobIn, deviceIn, stateIn, coreIn}
 use Rattle.machine.specs.Sound.{requestSound, stateSound}
 use Rattle.memory.specs.declared.DeviceAnswer.{DeviceAnswer}
-use Rattle.plan.specs.Questions.{areaOf, deviceOf, subAreaOf}
+use Rattle.plan.specs.Questions.{areaOf, deviceOf}
 use Rattle.plan.specs.declared.records.AreaRecord.{AreaRecord}
 use Rattle.plan.specs.declared.records.DeviceRecord.{DeviceRecord}
 use Rattle.plan.specs.declared.records.Plan.{Plan}
@@ -33,11 +33,11 @@ use Rattle.state.specs.declared.DeviceState.{DeviceState}
 use Rattle.state.specs.declared.DeviceState.the-variants.{Free, Runs, LockedFor}
 use Rattle.state.specs.declared.Job.{Job}
 use Rattle.requests.specs.Requests.{Fits, request-fits, job-taken, due-taken, state-taken, memory-taken, found-fits}
-use Rattle.answers.specs.laws.Answers.{Lent, turnArea, turnState, turnDue, wornBy, turnSectors, turnMemory}
-use Rattle.wear.specs.Wear.{mostWear, wornTo}
+use Rattle.answers.specs.laws.Answers.{Lent, turnArea, turnState, turnDue, wearPlace, turnErased, turnMemory}
+use Rattle.answers.specs.declared.Erased.{Erased}
 use Rattle.rounds.specs.laws.AnswerLaws.{core-kept, free-core, free-memory, locked-core, locked-memory, runs-core, runs-memory}
 use Rattle.rounds.specs.laws.Halves.{both}
-use Rattle.rounds.specs.laws.WearTurns.{wear-kept, worn-turn}
+use Rattle.rounds.specs.laws.WearTurns.{wornOne, wear-none, worn-turn, Within}
 use Rattle.close.specs.Close.{lentTo}
 
 -- one due segment more
@@ -93,24 +93,23 @@ module _ (p : Plan) (few : p .«area_count» ≤ 8) (d : ℕ) (y : DeviceAnswer)
       rw (f, lt-ltb a 8 (runs-known a polls e))
       (memory-taken p d a polls (jobIn areas a) y m (due a) (runs-due a polls e) ∙ runs-memory p d y areas devices m a polls e)
 
-  -- the sums with what the turn erased are those of the rules: i is the place of the segment's sub-area, n the sectors
-  module _ (room : p .«sub_area_count» ≤ 32) (es : List Segment) (start w : List ℕ) (was : w ≡ wearAfter p es start) (i : ℕ) (below : getD w i 0 ≤ mostWear) where
+  -- the sums with what the turn erased are those of the rules
+  module _ (room : p .«sub_area_count» ≤ 32) (es : List Segment) (start w : List ℕ) (was : w ≡ wearAfter p es start) (within : Within w) where
     -- the sub-area of a request that runs has a place
-    runs-place : (a polls : ℕ) → stateIn devices d ≡ Runs a polls → wornBy (due a) ≡ due a .«sub_area»
+    runs-place : (a polls : ℕ) → stateIn devices d ≡ Runs a polls → wearPlace (due a .«sub_area») ≡ due a .«sub_area»
     runs-place a polls e = rw (lt-leb 32 (due a .«sub_area») (rw (runs-due a polls e) (sub-area-room p room a _ _)))
 
-    turn-wear : (x : DeviceState) → stateIn devices d ≡ x → (k : ℕ) → k ≡ runnerOf x → i ≡ wornBy (due k) → (n : ℕ) →
-        n ≡ turnSectors (areaOf (p .areas) k) (subAreaOf (p .«sub_areas») i .erase .unit) (entry k) (due k) y m x →
-        set w i (wornTo (getD w i 0) n) ≡ wearAfter p (erasesOn p x (verdictOn p x y (jobIn areas) m) (jobIn areas) es) start
+    turn-wear : (x : DeviceState) → stateIn devices d ≡ x → (k : ℕ) → k ≡ runnerOf x → (o : Erased) →
+        o ≡ turnErased (areaOf (p .areas) k) (entry k) (due k) y m x →
+        wornOne p w (wearPlace (o .«sub_area»)) (o .length) ≡ wearAfter p (erasesOn p x (verdictOn p x y (jobIn areas) m) (jobIn areas) es) start
     unfolding layoutOf
-    turn-wear Free e k f g n = λ h. rw h (wear-kept w i below ∙ was)
-    turn-wear (LockedFor a) e k f g n = λ h. rw h (wear-kept w i below ∙ was)
-    turn-wear (Runs a polls) e k f g n =
-        let here : i ≡ due a .«sub_area» = g ∙ ap (λ b. wornBy (due b)) (f ∙ rw (lt-ltb a 8 (runs-known a polls e)) refl) ∙ runs-place a polls e in
+    turn-wear Free e k f o = λ h. rw h (wear-none p w 0 (within 0) ∙ was)
+    turn-wear (LockedFor a) e k f o = λ h. rw h (wear-none p w 0 (within 0) ∙ was)
+    turn-wear (Runs a polls) e k f o =
         rw (f, lt-ltb a 8 (runs-known a polls e), ← (runs-due a polls e))
         (λ h.
-        rw (h, here)
-        (worn-turn p (jobIn areas a .task .kind) (due a) es start w was (rw here at below)
+        rw (h, runs-place a polls e)
+        (worn-turn p (jobIn areas a .task .kind) (due a) es start w was (within (due a .«sub_area»))
         (verdictOf y (jobIn areas a .task .kind) (due a .start .0) (areaOf (p .areas) a .window .start + jobIn areas a .processed) (due a .length) m)))
 
   module _ (areas-are : length areas ≡ 8) (devices-are : length devices ≡ 4) (dues-are : length dues ≡ 8) (there : d < 4) where
@@ -158,12 +157,11 @@ module _ (p : Plan) (few : p .«area_count» ≤ 8) (d : ℕ) (y : DeviceAnswer)
     pub lent-turn : Lent (areaOf records k) (entry k) (due k) image store (stateIn devices d)
     lent-turn = rw records-are (turn-lent (stateIn devices d) refl k k-is)
 
-    pub wear-turn : p .«sub_area_count» ≤ 32 → (es : List Segment) (start w : List ℕ) → w ≡ wearAfter p es start → (i : ℕ) → getD w i 0 ≤ mostWear →
-        i ≡ wornBy (due k) → (n : ℕ) → n ≡ turnSectors (areaOf records k) (subAreaOf l i .erase .unit) (entry k) (due k) y m (stateIn devices d) →
-        set w i (wornTo (getD w i 0) n)
+    pub wear-turn : p .«sub_area_count» ≤ 32 → (es : List Segment) (start w : List ℕ) → w ≡ wearAfter p es start → Within w → (o : Erased) →
+        o ≡ turnErased (areaOf records k) (entry k) (due k) y m (stateIn devices d) →
+        wornOne p w (wearPlace (o .«sub_area»)) (o .length)
         ≡ wearAfter p (erasesOn p (stateIn devices d) (verdictOn p (stateIn devices d) y (jobIn areas) m) (jobIn areas) es) start
-    wear-turn room es start w was i below g n =
-        rw (l-is, records-are) (turn-wear room es start w was i below (stateIn devices d) refl k k-is g n)
+    wear-turn room es start w was within o = rw records-are (turn-wear room es start w was within (stateIn devices d) refl k k-is o)
 
     -- what the turn leaves: arrays and memory are those of the rules, and the due segments go along
     pub whole-turn : length areas ≡ 8 → length devices ≡ 4 → length dues ≡ 8 → d < 4 → (r : Area) (s : Segment) (z : Device) (i t : List ℕ) →

@@ -1,5 +1,7 @@
 use Prim.Native.Nat.{_-_, _≤_}
 use mathlib.Core.List.{[]}
+use mathlib.Core.Logic.{⊎-elim}
+use Rattle.answers.specs.laws.Answers.{wearPlace}
 use mathlib.Core.Path.{_≡_, refl, ap, _∙_}
 use native.Mathlib.Omega.{arith}
 use lib.ListN.{length, set, length-set}
@@ -18,14 +20,15 @@ use Rattle.rounds.specs.laws.NeedLaws.{whole-areas, whole-devices, whole
 use Rattle.rounds.specs.laws.PickLaws.{start-turn, second-turn}
 use Rattle.close.specs.laws.Waits.{needsLayout}
 use Rattle.rounds.specs.laws.Turns.{lent-turn, whole-turn, wear-turn}
-use Rattle.rounds.specs.laws.WearTurns.{erases-turn}
+use Rattle.rounds.specs.laws.WearTurns.{erases-turn, wornOne, worn-set, worn-left, Within, within-set}
 use borrow.Author.Needs.{needs, elem-fits}
+use mir.Syntax.{w32}
 use Rattle.rounds.proofs.halves.run_round.Statement.{statement}
 use Rattle.rounds.proofs.halves.run_round.Tie as tie
 use Rattle.rounds.proofs.halves.run_round.Reads as reads
 use Rattle.rounds.proofs.halves.run_round.Lts as lts
+use Rattle.answers.proofs.Erased.place.Reads as place-reads
 use Rattle.answers.proofs.take_answer.Reads as take-answer-reads
-use Rattle.answers.proofs.worn_by.Reads as worn-by-reads
 use Rattle.close.proofs.closed_area.Reads as closed-area-reads
 use Rattle.devices.proofs.state_on.Reads as state-on-reads
 use Rattle.machine.proofs.soundness.runner.Reads as runner-reads
@@ -34,6 +37,7 @@ use Rattle.picks.proofs.pick_area.Reads as pick-area-reads
 use Rattle.picks.proofs.slot_on.Reads as slot-on-reads
 use Rattle.picks.proofs.start_choice.Reads as start-choice-reads
 use Rattle.rounds.proofs.halves.needed_devices.Reads as needed-devices-reads
+use Rattle.wear.proofs.sectors_in.Reads as sectors-in-reads
 use Rattle.wear.proofs.worn_to.Reads as worn-to-reads
 
 abbrev Inv-loop : tie.InvT-loop
@@ -42,7 +46,7 @@ Inv-loop plan ages image₀ store₀ answers areas₀ devices₀ dues₀ wear₀
     × (length image ≡ length image₀) × (length store ≡ length store₀) × (length areas ≡ 8) × (length devices ≡ 4) × (length dues ≡ 8)
     × ((coreIn areas devices, memoryOf image store) ≡ both (takeAll plan answers d (lentTo areas₀ devices₀ (memoryOf image₀ store₀))))
     × Due plan dues (jobIn areas)
-    × (length wear ≡ 32) × (wear ≡ wearAfter plan (erasesTo plan answers d (lentTo areas₀ devices₀ (memoryOf image₀ store₀))) wear₀)
+    × (length wear ≡ 32) × Within wear × (wear ≡ wearAfter plan (erasesTo plan answers d (lentTo areas₀ devices₀ (memoryOf image₀ store₀))) wear₀)
 
 abbrev μ-loop : tie.MeasureT-loop
 μ-loop plan ages image₀ store₀ answers areas₀ devices₀ dues₀ wear₀ before sub-areas records device-records d₀ image store areas devices dues wear d = plan .«device_count» - d
@@ -66,7 +70,7 @@ loop-holds : tie.Need-loop-holds Inv-loop μ-loop Inv-loop2 μ-loop2 Inv-loop3 �
 unfolding takeAll erasesTo wearAfter
 loop-holds c = let s = c .before .before .before .before .before in
     let few = sound-counts (s .args .plan) (s .args .t3) (s .args .t4) (s .pre .0) in
-    (few .0, few .1, few .2, omega arith, refl, refl, refl, refl, refl, s .good .1 .1 .0 .1 .0 .1, s .good .1 .1 .1 .0 .1 .0 .1, s .good .1 .1 .1 .1 .1 .0 .1 .0 .1, refl, s .pre .3, s .good .1 .1 .1 .1 .1 .1 .0 .1 .0 .1, refl)
+    (few .0, few .1, few .2, omega arith, refl, refl, refl, refl, refl, s .good .1 .1 .0 .1 .0 .1, s .good .1 .1 .1 .0 .1 .0 .1, s .good .1 .1 .1 .1 .1 .0 .1 .0 .1, refl, s .pre .3, s .good .1 .1 .1 .1 .1 .1 .0 .1 .0 .1, (λ i. omega (arith, elem-fits w32 w32 (s .args .t7) _ i (s .good .1 .1 .1 .1 .1 .1 .0 .1 .1) tt .fits)), refl)
 
 mul-device : tie.Need-mul-device Inv-loop μ-loop Inv-loop2 μ-loop2 Inv-loop3 μ-loop3
 mul-device c = omega (arith, c .before .before .loop .inv .0, c .if1 .taken)
@@ -77,21 +81,6 @@ array-copy-out-device c = omega (arith, c .before .before .loop .inv .0, c .if1 
 runner-requires : tie.Need-runner-requires Inv-loop μ-loop Inv-loop2 μ-loop2 Inv-loop3 μ-loop3
 runner-requires c κs = search needs
 
-mul-due : tie.Need-mul-due Inv-loop μ-loop Inv-loop2 μ-loop2 Inv-loop3 μ-loop3
-mul-due c = search needs
-
-array-copy-out-due : tie.Need-array-copy-out-due Inv-loop μ-loop Inv-loop2 μ-loop2 Inv-loop3 μ-loop3
-array-copy-out-due c = search needs
-
-worn-by-requires : tie.Need-worn-by-requires Inv-loop μ-loop Inv-loop2 μ-loop2 Inv-loop3 μ-loop3
-worn-by-requires c κs = search needs
-
-mul-sub-area : tie.Need-mul-sub-area Inv-loop μ-loop Inv-loop2 μ-loop2 Inv-loop3 μ-loop3
-mul-sub-area c = search needs
-
-array-copy-out-sub-area : tie.Need-array-copy-out-sub-area Inv-loop μ-loop Inv-loop2 μ-loop2 Inv-loop3 μ-loop3
-array-copy-out-sub-area c = search needs
-
 mul-take-answer : tie.Need-mul-take-answer Inv-loop μ-loop Inv-loop2 μ-loop2 Inv-loop3 μ-loop3
 mul-take-answer c = search needs
 
@@ -99,10 +88,10 @@ array-copy-out-take-answer : tie.Need-array-copy-out-take-answer Inv-loop μ-loo
 array-copy-out-take-answer c = search needs
 
 mul-take-answer-2 : tie.Need-mul-take-answer-2 Inv-loop μ-loop Inv-loop2 μ-loop2 Inv-loop3 μ-loop3
-mul-take-answer-2 c = omega (arith, c .before .before .before .before .before .before .before .before .loop .inv .0, c .before .before .before .before .before .before .if1 .taken)
+mul-take-answer-2 c = omega (arith, c .before .before .before .before .before .loop .inv .0, c .before .before .before .if1 .taken)
 
 array-copy-out-take-answer-2 : tie.Need-array-copy-out-take-answer-2 Inv-loop μ-loop Inv-loop2 μ-loop2 Inv-loop3 μ-loop3
-array-copy-out-take-answer-2 c = omega (arith, c .before .before .before .before .before .before .before .before .loop .inv .0, c .before .before .before .before .before .before .if1 .taken)
+array-copy-out-take-answer-2 c = omega (arith, c .before .before .before .before .before .loop .inv .0, c .before .before .before .if1 .taken)
 
 mul-take-answer-3 : tie.Need-mul-take-answer-3 Inv-loop μ-loop Inv-loop2 μ-loop2 Inv-loop3 μ-loop3
 mul-take-answer-3 c = search needs
@@ -111,55 +100,73 @@ array-copy-out-take-answer-3 : tie.Need-array-copy-out-take-answer-3 Inv-loop μ
 array-copy-out-take-answer-3 c = search needs
 
 mul-take-answer-4 : tie.Need-mul-take-answer-4 Inv-loop μ-loop Inv-loop2 μ-loop2 Inv-loop3 μ-loop3
-mul-take-answer-4 c = omega (arith, c .before .before .before .before .before .before .before .before .before .before .loop .inv .0, c .before .before .before .before .before .before .before .before .if1 .taken)
+mul-take-answer-4 c = search needs
 
 array-copy-out-take-answer-4 : tie.Need-array-copy-out-take-answer-4 Inv-loop μ-loop Inv-loop2 μ-loop2 Inv-loop3 μ-loop3
-array-copy-out-take-answer-4 c = omega (arith, c .before .before .before .before .before .before .before .before .before .before .loop .inv .0, c .before .before .before .before .before .before .before .before .if1 .taken)
+array-copy-out-take-answer-4 c = search needs
+
+mul-take-answer-5 : tie.Need-mul-take-answer-5 Inv-loop μ-loop Inv-loop2 μ-loop2 Inv-loop3 μ-loop3
+mul-take-answer-5 c = omega (arith, c .before .before .before .before .before .before .before .before .loop .inv .0, c .before .before .before .before .before .before .if1 .taken)
+
+array-copy-out-take-answer-5 : tie.Need-array-copy-out-take-answer-5 Inv-loop μ-loop Inv-loop2 μ-loop2 Inv-loop3 μ-loop3
+array-copy-out-take-answer-5 c = omega (arith, c .before .before .before .before .before .before .before .before .loop .inv .0, c .before .before .before .before .before .before .if1 .taken)
 
 take-answer-requires : tie.Need-take-answer-requires Inv-loop μ-loop Inv-loop2 μ-loop2 Inv-loop3 μ-loop3
 take-answer-requires c κs =
-    let s = c .before .before .before .before .before .before .before .before .before .before .before .before .before .before .before .before .before .before .before in
+    let s = c .before .before .before .before .before .before .before .before .before .before .before .before .before .before .before .before .before in
     let p = s .args .plan in
-    let l = c .before .before .before .before .before .before .before .before .before .before .before .before .before .loop in
-    let r = c .before .before .before .before .before .before .before .before .before .runner in (
+    let l = c .before .before .before .before .before .before .before .before .before .before .before .loop in
+    let r = c .before .before .before .before .before .before .before .runner in (
       l .inv .2,
       lent-turn p (l .inv .1) (l .d) (answerFor (s .args .t2) (l .d)) (l .areas) (l .devices) (l .dues) (l .image) (l .store)
-          (turn-sound p (s .args .t3) (s .args .t4) (s .pre .0) (s .args .t2) (memoryOf (s .args .image .now) (s .args .store .now)) (l .d) (coreIn (l .areas) (l .devices)) (ap (λ x. x .0) (l .inv .12)) (c .before .before .before .before .before .before .before .before .before .before .before .if1 .taken))
+          (turn-sound p (s .args .t3) (s .args .t4) (s .pre .0) (s .args .t2) (memoryOf (s .args .image .now) (s .args .store .now)) (l .d) (coreIn (l .areas) (l .devices)) (ap (λ x. x .0) (l .inv .12)) (c .before .before .before .before .before .before .before .before .before .if1 .taken))
           (image-again _ _ _ (l .inv .7) (s .pre .1)) (store-again _ _ _ (l .inv .8) (s .pre .2)) (l .inv .13) _ _ _ (l .inv .4) (l .inv .5) (l .inv .6) (r .result) (r .ensures .0),
     )
 
 mul-areas : tie.Need-mul-areas Inv-loop μ-loop Inv-loop2 μ-loop2 Inv-loop3 μ-loop3
-mul-areas c = omega (arith, c .before .before .before .before .before .before .before .before .before .before .before .before .before .before .before .before .before .runner .ensures .1, c .before .before .before .before .before .before .before .before .before .before .before .before .before .before .before .before .before .before .before .before .before .loop .inv .9, c .before .before .before .before .before .before .before .before .before .before .before .before .before .before .before .before .before .before .before .before .before .loop .inv .11)
+mul-areas c = search needs
 
 array-set-from-areas : tie.Need-array-set-from-areas Inv-loop μ-loop Inv-loop2 μ-loop2 Inv-loop3 μ-loop3
-array-set-from-areas c = omega (arith, c .before .before .before .before .before .before .before .before .before .before .before .before .before .before .before .before .before .runner .ensures .1, c .before .before .before .before .before .before .before .before .before .before .before .before .before .before .before .before .before .before .before .before .before .loop .inv .9, c .before .before .before .before .before .before .before .before .before .before .before .before .before .before .before .before .before .before .before .before .before .loop .inv .11)
+array-set-from-areas c = search needs
 
 mul-dues : tie.Need-mul-dues Inv-loop μ-loop Inv-loop2 μ-loop2 Inv-loop3 μ-loop3
-mul-dues c = omega (arith, c .before .before .before .before .before .before .before .before .before .before .before .before .before .before .before .before .before .runner .ensures .1, c .before .before .before .before .before .before .before .before .before .before .before .before .before .before .before .before .before .before .before .before .before .loop .inv .9, c .before .before .before .before .before .before .before .before .before .before .before .before .before .before .before .before .before .before .before .before .before .loop .inv .11)
+mul-dues c = search needs
 
 array-set-from-dues : tie.Need-array-set-from-dues Inv-loop μ-loop Inv-loop2 μ-loop2 Inv-loop3 μ-loop3
-array-set-from-dues c = omega (arith, c .before .before .before .before .before .before .before .before .before .before .before .before .before .before .before .before .before .runner .ensures .1, c .before .before .before .before .before .before .before .before .before .before .before .before .before .before .before .before .before .before .before .before .before .loop .inv .9, c .before .before .before .before .before .before .before .before .before .before .before .before .before .before .before .before .before .before .before .before .before .loop .inv .11)
+array-set-from-dues c = search needs
 
 mul-devices : tie.Need-mul-devices Inv-loop μ-loop Inv-loop2 μ-loop2 Inv-loop3 μ-loop3
-mul-devices c = omega (arith, c .before .before .before .before .before .before .before .before .before .before .before .before .before .before .before .before .before .before .before .before .before .loop .inv .0, c .before .before .before .before .before .before .before .before .before .before .before .before .before .before .before .before .before .before .before .if1 .taken)
+mul-devices c = omega (arith, c .before .before .before .before .before .before .before .before .before .before .before .before .before .before .before .before .before .before .before .loop .inv .0, c .before .before .before .before .before .before .before .before .before .before .before .before .before .before .before .before .before .if1 .taken)
 
 array-set-from-devices : tie.Need-array-set-from-devices Inv-loop μ-loop Inv-loop2 μ-loop2 Inv-loop3 μ-loop3
-array-set-from-devices c = omega (arith, c .before .before .before .before .before .before .before .before .before .before .before .before .before .before .before .before .before .before .before .before .before .loop .inv .0, c .before .before .before .before .before .before .before .before .before .before .before .before .before .before .before .before .before .before .before .if1 .taken)
+array-set-from-devices c = omega (arith, c .before .before .before .before .before .before .before .before .before .before .before .before .before .before .before .before .before .before .before .loop .inv .0, c .before .before .before .before .before .before .before .before .before .before .before .before .before .before .before .before .before .if1 .taken)
+
+place-requires : tie.Need-place-requires Inv-loop μ-loop Inv-loop2 μ-loop2 Inv-loop3 μ-loop3
+place-requires c κs = search needs
+
+mul-sub-area : tie.Need-mul-sub-area Inv-loop μ-loop Inv-loop2 μ-loop2 Inv-loop3 μ-loop3
+mul-sub-area c = omega (arith, c .place .ensures .1)
+
+array-copy-out-sub-area : tie.Need-array-copy-out-sub-area Inv-loop μ-loop Inv-loop2 μ-loop2 Inv-loop3 μ-loop3
+array-copy-out-sub-area c = omega (arith, c .place .ensures .1)
+
+sectors-in-requires : tie.Need-sectors-in-requires Inv-loop μ-loop Inv-loop2 μ-loop2 Inv-loop3 μ-loop3
+sectors-in-requires c κs = search needs
 
 mul-worn-to : tie.Need-mul-worn-to Inv-loop μ-loop Inv-loop2 μ-loop2 Inv-loop3 μ-loop3
-mul-worn-to c = omega (arith, c .before .before .before .before .before .before .before .before .before .before .before .before .before .before .before .worn-by .ensures .1)
+mul-worn-to c = omega (arith, c .before .before .place .ensures .1)
 
 array-read-worn-to : tie.Need-array-read-worn-to Inv-loop μ-loop Inv-loop2 μ-loop2 Inv-loop3 μ-loop3
-array-read-worn-to c = omega (arith, c .before .before .before .before .before .before .before .before .before .before .before .before .before .before .before .before .before .before .before .before .before .loop .inv .14, c .before .before .before .before .before .before .before .before .before .before .before .before .before .before .before .worn-by .ensures .1)
+array-read-worn-to c = omega (arith, c .before .before .before .before .before .before .before .before .before .before .before .before .before .before .before .before .before .before .before .before .before .before .before .before .before .loop .inv .14, c .before .before .place .ensures .1)
 
 worn-to-requires : tie.Need-worn-to-requires Inv-loop μ-loop Inv-loop2 μ-loop2 Inv-loop3 μ-loop3
 worn-to-requires c κs = search needs
 
 mul-wear : tie.Need-mul-wear Inv-loop μ-loop Inv-loop2 μ-loop2 Inv-loop3 μ-loop3
-mul-wear c = omega (arith, c .before .before .before .before .before .before .before .before .before .before .before .before .before .before .before .before .worn-by .ensures .1)
+mul-wear c = omega (arith, c .before .before .before .place .ensures .1)
 
 array-write-wear : tie.Need-array-write-wear Inv-loop μ-loop Inv-loop2 μ-loop2 Inv-loop3 μ-loop3
-array-write-wear c = omega (arith, c .before .before .before .before .before .before .before .before .before .before .before .before .before .before .before .before .before .before .before .before .before .before .loop .inv .14, c .before .before .before .before .before .before .before .before .before .before .before .before .before .before .before .before .worn-by .ensures .1)
+array-write-wear c = omega (arith, c .before .before .before .before .before .before .before .before .before .before .before .before .before .before .before .before .before .before .before .before .before .before .before .before .before .before .loop .inv .14, c .before .before .before .place .ensures .1)
 
 add-d : tie.Need-add-d Inv-loop μ-loop Inv-loop2 μ-loop2 Inv-loop3 μ-loop3
 add-d c = omega (arith, c .before .before .before .before .before .before .before .before .before .before .before .before .before .before .before .before .before .before .before .before .before .before .loop .inv .0, c .before .before .before .before .before .before .before .before .before .before .before .before .before .before .before .before .before .before .before .before .if1 .taken)
@@ -174,16 +181,20 @@ loop-again c =
     let l = c .before .before .before .before .before .before .before .before .before .before .before .before .before .before .before .before .before .before .before .before .before .before .loop in
     let more = c .before .before .before .before .before .before .before .before .before .before .before .before .before .before .before .before .before .before .before .before .if1 .taken in
     let r = c .before .before .before .before .before .before .before .before .before .before .before .before .before .before .before .before .before .before .runner in
-    let t = c .before .before .before .before .before .before .before .before .take-answer in
-    let place = c .before .before .before .before .before .before .before .before .before .before .before .before .before .before .before .before .worn-by in
+    let t = c .before .before .before .before .before .before .before .before .before .before .take-answer in
     let lent = lentTo (s .args .t3) (s .args .t4) (memoryOf (s .args .image .now) (s .args .store .now)) in
     let sound = turn-sound p (s .args .t3) (s .args .t4) (s .pre .0) (s .args .t2) (memoryOf (s .args .image .now) (s .args .store .now)) (l .d) (coreIn (l .areas) (l .devices)) (ap (λ x. x .0) (l .inv .12)) more in
     let turn = whole-turn p (l .inv .1) (l .d) (answerFor (s .args .t2) (l .d)) (l .areas) (l .devices) (l .dues) (l .image) (l .store) sound
     (image-again _ _ _ (l .inv .7) (s .pre .1)) (store-again _ _ _ (l .inv .8) (s .pre .2)) (l .inv .13) _ _ _ (l .inv .4) (l .inv .5) (l .inv .6) (r .result) (r .ensures .0) (l .inv .9) (l .inv .10) (l .inv .11) (omega (arith, l .inv .0, more))
     (t .result .area) (t .result .due) (t .result .device) _ _ (t .ensures .0) (t .ensures .1 .0) (t .ensures .1 .1 .0) (t .ensures .1 .1 .1 .1 .0) (t .ensures .1 .1 .1 .1 .1) in
     let worn = wear-turn p (l .inv .1) (l .d) (answerFor (s .args .t2) (l .d)) (l .areas) (l .devices) (l .dues) (l .image) (l .store) sound
-    (image-again _ _ _ (l .inv .7) (s .pre .1)) (store-again _ _ _ (l .inv .8) (s .pre .2)) (l .inv .13) _ _ _ (l .inv .4) (l .inv .5) (l .inv .6) (r .result) (r .ensures .0)
-    (l .inv .2) (erasesTo p (s .args .t2) (l .d) lent) (s .args .t7) (l .wear) (l .inv .15) (place .result) (c .worn-to .ensures .1) (place .ensures .0) (t .result .sectors) (t .ensures .1 .1 .1 .0) in (
+    (image-again _ _ _ (l .inv .7) (s .pre .1)) (store-again _ _ _ (l .inv .8) (s .pre .2)) (l .inv .13) (p .«sub_areas») _ _ refl (l .inv .5) (l .inv .6) (r .result) (r .ensures .0)
+    (l .inv .2) (erasesTo p (s .args .t2) (l .d) lent) (s .args .t7) (l .wear) (l .inv .16) (l .inv .15) (t .result .erased) (t .ensures .1 .1 .1 .0) in
+    let is : c .if2 .wear ≡ wornOne p (l .wear) (wearPlace (t .result .erased .«sub_area»)) (t .result .erased .length) =
+    ⊎-elim
+    (λ w. worn-set p _ (l .inv .4) (l .wear) _ (w .1 .result) _ _ _ _ (w .1 .ensures .0) (w .3 .ensures) (w .4 .ensures .0) (w .5))
+    (λ w. worn-left p (l .wear) _ _ _ (l .inv .15 _) (w .0 .left) (w .1))
+    (c .if2 .came) in (
       l .inv .0,
       l .inv .1,
       l .inv .2,
@@ -191,15 +202,16 @@ loop-again c =
       l .inv .4,
       l .inv .5,
       l .inv .6,
-      omega (arith, l .inv .7, t .kept .1 .1 .1 .1 .1 .1 .1 .1 .1 .0),
-      omega (arith, l .inv .8, t .kept .1 .1 .1 .1 .1 .1 .1 .1 .1 .1 .0),
+      omega (arith, l .inv .7, t .kept .1 .1 .1 .1 .1 .1 .1 .1 .0),
+      omega (arith, l .inv .8, t .kept .1 .1 .1 .1 .1 .1 .1 .1 .1 .0),
       rw length-set (l .inv .9),
       rw length-set (l .inv .10),
       rw length-set (l .inv .11),
       turn .0 ∙ take-turn p (s .args .t2) lent (l .d) (coreIn (l .areas) (l .devices), memoryOf (l .image) (l .store)) (l .inv .12),
       turn .1,
-      rw length-set (l .inv .14),
-      ap (set (l .wear) (place .result)) (c .worn-to .ensures .0) ∙ worn
+      rw (is, length-set) (l .inv .14),
+      rw is (within-set (l .wear) _ _ (l .inv .15)),
+      is ∙ worn
           ∙ ap (λ es. wearAfter p es (s .args .t7)) (erases-turn p (s .args .t2) lent (l .d) (coreIn (l .areas) (l .devices), memoryOf (l .image) (l .store)) (l .inv .12)),
     )
 
@@ -211,16 +223,16 @@ unfolding secondHalf
 loop2-holds c = (omega arith, c .before .before .before .loop .inv .9, c .before .before .before .loop .inv .10, refl)
 
 mul-device-2 : tie.Need-mul-device-2 Inv-loop μ-loop Inv-loop2 μ-loop2 Inv-loop3 μ-loop3
-mul-device-2 c = omega (arith, c .before .before .before .before .before .before .loop .inv .0, c .if2 .taken)
+mul-device-2 c = omega (arith, c .before .before .before .before .before .before .loop .inv .0, c .if3 .taken)
 
 array-copy-out-device-2 : tie.Need-array-copy-out-device-2 Inv-loop μ-loop Inv-loop2 μ-loop2 Inv-loop3 μ-loop3
-array-copy-out-device-2 c = omega (arith, c .before .before .before .before .before .before .loop .inv .0, c .if2 .taken)
+array-copy-out-device-2 c = omega (arith, c .before .before .before .before .before .before .loop .inv .0, c .if3 .taken)
 
 mul-record : tie.Need-mul-record Inv-loop μ-loop Inv-loop2 μ-loop2 Inv-loop3 μ-loop3
-mul-record c = omega (arith, c .before .before .before .before .before .before .before .loop .inv .0, c .before .if2 .taken)
+mul-record c = omega (arith, c .before .before .before .before .before .before .before .loop .inv .0, c .before .if3 .taken)
 
 array-copy-out-record : tie.Need-array-copy-out-record Inv-loop μ-loop Inv-loop2 μ-loop2 Inv-loop3 μ-loop3
-array-copy-out-record c = omega (arith, c .before .before .before .before .before .before .before .loop .inv .0, c .before .if2 .taken)
+array-copy-out-record c = omega (arith, c .before .before .before .before .before .before .before .loop .inv .0, c .before .if3 .taken)
 
 runner-requires-2 : tie.Need-runner-requires-2 Inv-loop μ-loop Inv-loop2 μ-loop2 Inv-loop3 μ-loop3
 runner-requires-2 c κs = search needs
@@ -256,13 +268,13 @@ array-set-from-areas-2 : tie.Need-array-set-from-areas-2 Inv-loop μ-loop Inv-lo
 array-set-from-areas-2 c = search needs
 
 mul-devices-2 : tie.Need-mul-devices-2 Inv-loop μ-loop Inv-loop2 μ-loop2 Inv-loop3 μ-loop3
-mul-devices-2 c = omega (arith, c .before .before .before .before .before .before .before .before .before .before .before .before .before .before .before .before .before .loop .inv .0, c .before .before .before .before .before .before .before .before .before .before .before .if2 .taken)
+mul-devices-2 c = omega (arith, c .before .before .before .before .before .before .before .before .before .before .before .before .before .before .before .before .before .loop .inv .0, c .before .before .before .before .before .before .before .before .before .before .before .if3 .taken)
 
 array-set-from-devices-2 : tie.Need-array-set-from-devices-2 Inv-loop μ-loop Inv-loop2 μ-loop2 Inv-loop3 μ-loop3
-array-set-from-devices-2 c = omega (arith, c .before .before .before .before .before .before .before .before .before .before .before .before .before .before .before .before .before .loop .inv .0, c .before .before .before .before .before .before .before .before .before .before .before .if2 .taken)
+array-set-from-devices-2 c = omega (arith, c .before .before .before .before .before .before .before .before .before .before .before .before .before .before .before .before .before .loop .inv .0, c .before .before .before .before .before .before .before .before .before .before .before .if3 .taken)
 
 add-e : tie.Need-add-e Inv-loop μ-loop Inv-loop2 μ-loop2 Inv-loop3 μ-loop3
-add-e c = omega (arith, c .before .before .before .before .before .before .before .before .before .before .before .before .before .before .before .before .before .loop .inv .0, c .before .before .before .before .before .before .before .before .before .before .before .if2 .taken)
+add-e c = omega (arith, c .before .before .before .before .before .before .before .before .before .before .before .before .before .before .before .before .before .loop .inv .0, c .before .before .before .before .before .before .before .before .before .before .before .if3 .taken)
 
 loop2-less : tie.Need-loop2-less Inv-loop μ-loop Inv-loop2 μ-loop2 Inv-loop3 μ-loop3
 loop2-less c = search needs
@@ -273,11 +285,11 @@ loop2-again c =
     let p = s .args .plan in
     let needs = c .before .before .before .before .before .before .before .before .before .before .before .before .before .before .needed-devices .result in
     let l = c .before .before .before .before .before .before .before .before .before .before .before .before .before .loop2 in (
-      omega (arith, c .before .before .before .before .before .before .before .before .before .before .before .if2 .taken),
+      omega (arith, c .before .before .before .before .before .before .before .before .before .before .before .if3 .taken),
       rw length-set (l .inv .1),
       rw length-set (l .inv .2),
       second-turn (needsLayout (p .areas) (s .args .ages) (p .«area_count») (p .devices) needs) (l .e) _ _ _ (l .inv .3)
-          (start-turn (l .e) (l .areas) (l .devices) (l .inv .1) (omega (arith, c .before .before .before .before .before .before .before .before .before .before .before .if2 .taken, c .before .before .before .before .before .before .before .before .before .before .before .before .before .before .before .before .before .loop .inv .0, l .inv .2)) (p .areas) (s .args .ages) (p .«area_count») (c .before .before .before .before .before .before .before .before .before .before .before .before .before .before .before .before .before .loop .inv .1) (p .devices) needs
+          (start-turn (l .e) (l .areas) (l .devices) (l .inv .1) (omega (arith, c .before .before .before .before .before .before .before .before .before .before .before .if3 .taken, c .before .before .before .before .before .before .before .before .before .before .before .before .before .before .before .before .before .loop .inv .0, l .inv .2)) (p .areas) (s .args .ages) (p .«area_count») (c .before .before .before .before .before .before .before .before .before .before .before .before .before .before .before .before .before .loop .inv .1) (p .devices) needs
           (c .before .before .before .before .before .before .before .before .runner2 .result) (c .before .before .before .before .before .before .before .before .runner2 .ensures .0) (c .before .before .before .before .before .before .slot-on .result) (c .before .before .before .before .before .before .slot-on .ensures) (c .before .before .before .before .before .pick-area .result) (c .before .before .before .before .before .pick-area .ensures) (c .before .before .before .before .chosen .result) (c .before .before .before .before .chosen .ensures .0) (c .before .before .start-choice .result) (c .before .before .start-choice .ensures)),
     )
 
@@ -356,14 +368,14 @@ returns c =
     let l = c .before .loop3 in
     let answered : h .d ≡ p .«device_count» = omega (arith, c .before .before .before .before .before .before .if1 .left, h .inv .3) in
     let first = h .inv .12 ∙ ap (λ n. both (takeAll p (s .args .t2) n (lentTo (s .args .t3) (s .args .t4) m))) answered in
-    let picked : k .e ≡ p .«device_count» = omega (arith, c .before .before .if2 .left, k .inv .0) in
+    let picked : k .e ≡ p .«device_count» = omega (arith, c .before .before .if3 .left, k .inv .0) in
     let second = k .inv .3 ∙ ap (λ n. secondHalf (needsLayout (p .areas) (s .args .ages) (p .«area_count») (p .devices) needs) n (coreIn (h .areas) (h .devices))) picked in
     let closed = closed-all (needsLayout (p .areas) (s .args .ages) 0 [] needs) (s .args .t3) (k .areas) (coreIn (k .areas) (k .devices)) (l .a) (l .areas) (omega (arith, c .loop3-test .left, l .inv .0)) (l .inv .1) in (
       whole-areas p (s .args .t3) (s .args .t4) (s .args .ages) (s .args .t2) m (h .inv .1) (h .areas) (h .devices) (ap (λ x. x .0) first) (h .dues) (h .inv .13) needs (c .before .before .before .before .before .needed-devices .ensures) (k .areas) (k .devices) second (l .areas) closed,
       (
         whole-devices p (s .args .t3) (s .args .t4) (s .args .ages) (s .args .t2) m (h .inv .1) (h .areas) (h .devices) (ap (λ x. x .0) first) (h .dues) (h .inv .13) needs (c .before .before .before .before .before .needed-devices .ensures) (k .areas) (k .devices) second (k .inv .2),
         (
-          h .inv .15 ∙ ap (λ n. wearAfter p (erasesTo p (s .args .t2) n (lentTo (s .args .t3) (s .args .t4) m)) (s .args .t7)) answered,
+          h .inv .16 ∙ ap (λ n. wearAfter p (erasesTo p (s .args .t2) n (lentTo (s .args .t3) (s .args .t4) m)) (s .args .t7)) answered,
           (ap (λ x. x .1 .image) first ∙ ap (λ x. x .image) (whole-memory p (s .args .t3) (s .args .t4) (s .args .ages) (s .args .t2) m), ap (λ x. x .1 .store) first ∙ ap (λ x. x .store) (whole-memory p (s .args .t3) (s .args .t4) (s .args .ages) (s .args .t2) m)),
         ),
       ),
@@ -383,11 +395,6 @@ run-round-spec =
     mul-device
     array-copy-out-device
     runner-requires
-    mul-due
-    array-copy-out-due
-    worn-by-requires
-    mul-sub-area
-    array-copy-out-sub-area
     mul-take-answer
     array-copy-out-take-answer
     mul-take-answer-2
@@ -396,6 +403,8 @@ run-round-spec =
     array-copy-out-take-answer-3
     mul-take-answer-4
     array-copy-out-take-answer-4
+    mul-take-answer-5
+    array-copy-out-take-answer-5
     take-answer-requires
     mul-areas
     array-set-from-areas
@@ -403,6 +412,10 @@ run-round-spec =
     array-set-from-dues
     mul-devices
     array-set-from-devices
+    place-requires
+    mul-sub-area
+    array-copy-out-sub-area
+    sectors-in-requires
     mul-worn-to
     array-read-worn-to
     worn-to-requires
