@@ -1,1 +1,2 @@
+pub mod Erased
 pub mod laws

@@ -1,8 +1,10 @@
-// The first half of a round: a device with a running request takes its answer.
+// The first half of a round: a device with a running request takes its answer. And what its answer wears.
 ghost use mathlib.Core.Path.{_≡_};
 ghost use Prim.Native.Nat.{_≤_, _<_};
 ghost use Rattle.rules.specs.Machine.{doing};
-ghost use Rattle.answers.specs.laws.Answers.{Lent, turnArea, turnState, turnDue, nothingErased, wearPlace, turnErased, turnMemory};
+ghost use Rattle.answers.specs.laws.Answers.{Lent, turnArea, turnState, turnDue, turnMemory};
+ghost use Rattle.answers.specs.Erased.{isDone, erasedBytes, wearPlace};
+ghost use Rattle.segment.specs.Segments.{isErase};
 ghost use Rattle.effects.specs.Effects.{memoryOf};
 use memory::DeviceAnswer;
 use plan::records::AreaRecord;
@@ -11,44 +13,17 @@ use plan::records::SubAreaRecord;
 use requests::next_segment;
 use requests::take_request;
 use segment::Segment;
+use segment::is_erase;
 use state::Area;
 use state::Device;
 use state::DeviceState;
+use state::Job;
 
-// So many bytes of a sub-area were erased and wear it; none of any where nothing was.
-pub struct Erased {
-    pub sub_area: u8,
-    pub length: u64,
-}
-
-impl Erased {
-    fn none() -> Erased
-        ensures { λ r. ⌜ r ≡ nothingErased ⌝ }
-    {
-        Erased {
-            sub_area: 0,
-            length: 0,
-        }
-    }
-
-    // The sum that they add to: the sub-area's, or any where the sums have no room for it, which is so of no segment that runs.
-    pub fn place(self) -> usize
-        ensures { λ r. ⌜ (r ≡ wearPlace (self .«sub_area»)) × (r < 32) ⌝ }
-    {
-        let sub_area = self.sub_area as usize;
-        if 32 <= sub_area {
-            return 0;
-        }
-        sub_area
-    }
-}
-
-// What a device's answer makes of the device, and of the area that its request is for, and what was erased.
+// What a device's answer makes of the device, and of the area that its request is for.
 pub struct Turn {
     pub area: Area,
     pub due: Segment,
     pub device: Device,
-    pub erased: Erased,
 }
 
 // A device takes its answer; `entry` and `due` are of the area that its request is for. What it keeps suspended stays.
@@ -68,7 +43,6 @@ pub fn take_answer(
     ensures { λ r. ⌜ r .area ≡ turnArea «sub_areas» count «area_record» «device_record» entry due answer (memoryOf (now (image .entry)) (now (store .entry))) (device .state) ⌝ }
     ensures { λ r. ⌜ r .due ≡ turnDue «sub_areas» count «area_record» entry due answer (memoryOf (now (image .entry)) (now (store .entry))) (device .state) ⌝ }
     ensures { λ r. ⌜ r .device ≡ doing (turnState «area_record» «device_record» entry due answer (memoryOf (now (image .entry)) (now (store .entry))) (device .state)) device ⌝ }
-    ensures { λ r. ⌜ r .erased ≡ turnErased «area_record» entry due answer (memoryOf (now (image .entry)) (now (store .entry))) (device .state) ⌝ }
     ensures { λ _. ⌜ now (image .exit) ≡ turnMemory «area_record» «device_record» entry due answer (memoryOf (now (image .entry)) (now (store .entry))) (device .state) .image ⌝ }
     ensures { λ _. ⌜ now (store .exit) ≡ turnMemory «area_record» «device_record» entry due answer (memoryOf (now (image .entry)) (now (store .entry))) (device .state) .store ⌝ }
 {
@@ -79,19 +53,16 @@ pub fn take_answer(
             area: entry,
             due,
             device,
-            erased: Erased::none(),
         },
         DeviceState::LockedFor(_) => Turn {
             area: entry,
             due,
             device,
-            erased: Erased::none(),
         },
         DeviceState::Runs { area, polls } => {
             let job = entry.job;
             let waits = entry.waits;
             let start = area_record.start;
-            let sub_area = due.sub_area;
             let next = next_segment(answer, sub_areas, count, start, area as usize, job, due);
             let taken = take_request(
                 area_record.window.start,
@@ -113,11 +84,56 @@ pub fn take_answer(
                 area: Area { job, waits },
                 due,
                 device: Device { state, suspended },
-                erased: Erased {
-                    sub_area,
-                    length: taken.erased,
-                },
             }
         }
     }
+}
+
+fn is_done(answer: DeviceAnswer) -> bool
+    ensures { λ r. ⌜ r ≡ isDone answer ⌝ }
+{
+    match answer {
+        DeviceAnswer::Pending => false,
+        DeviceAnswer::Done => true,
+        DeviceAnswer::Failed(_) => false,
+    }
+}
+
+// Do the job's requests wear? Those of a cancelled job do too.
+fn wears(job: Job) -> bool
+    ensures { λ r. ⌜ r ≡ isErase (job .task .kind) ⌝ }
+{
+    let task = job.task;
+    let kind = task.kind;
+    is_erase(kind)
+}
+
+// How many bytes of its request a device says that it has erased: only a done erase wears. The job is that of the area that the request is for.
+pub fn erased_bytes(state: DeviceState, answer: DeviceAnswer, job: Job, length: u64) -> u64
+    ensures { λ r. ⌜ r ≡ erasedBytes state answer (job .task .kind) length ⌝ }
+{
+    match state {
+        DeviceState::Free => 0,
+        DeviceState::LockedFor(_) => 0,
+        DeviceState::Runs { area: _, polls: _ } => {
+            if !is_done(answer) {
+                return 0;
+            }
+            if !wears(job) {
+                return 0;
+            }
+            length
+        }
+    }
+}
+
+// The sum that a segment wears: its sub-area's, or any where the sums have no room for it, which is so of no segment that runs.
+pub fn wear_place(segment: Segment) -> usize
+    ensures { λ r. ⌜ (r ≡ wearPlace (segment .«sub_area»)) × (r < 32) ⌝ }
+{
+    let sub_area = segment.sub_area as usize;
+    if 32 <= sub_area {
+        return 0;
+    }
+    sub_area
 }

@@ -25,7 +25,7 @@ use Rattle.rules.specs.Machine.{Core, Verdict, goesOn, finished, differs, faile
 use Rattle.rules.specs.Memory.{Memory, agrees, verdictOf, answeredMemory}
 use Rattle.rules.specs.Round.{windowPlace, clearsOnly}
 use Rattle.segment.specs.laws.Found.{segmentFrom, segment-from}
-use Rattle.segment.specs.Segments.{isErase, noSegment, segmentAt}
+use Rattle.segment.specs.Segments.{noSegment, segmentAt}
 use Rattle.segment.specs.declared.Segment.{Segment}
 use Rattle.state.specs.declared.DeviceState.{DeviceState}
 use Rattle.state.specs.declared.DeviceState.the-variants.{Free, Runs}
@@ -63,16 +63,6 @@ dueWith s next goesOn = s
 dueWith s next finished = next
 dueWith s next differs = s
 dueWith s next failed = s
-
--- document 02, 05: "Each done erase": how many of its n bytes a request has erased that wears
-abbrev pub isFinished : Verdict → Bool
-isFinished finished = true
-isFinished goesOn = false
-isFinished differs = false
-isFinished failed = false
-
-abbrev pub erasedBy : Verdict → JobType → ℕ → ℕ
-erasedBy v k n = pick (isFinished v) (pick (isErase k) n 0) 0
 
 -- the segment behind s, which is due, where the answer may make it due
 abbrev pub nextOf : DeviceAnswer → List SubAreaRecord → ℕ → ℕ → ℕ → Job → Segment → Segment

@@ -5,8 +5,7 @@ ghost use lib.Dec.{leb};
 ghost use lib.ListN.{length};
 ghost use Rattle.rules.specs.Memory.{verdictOf, answeredMemory};
 ghost use Rattle.effects.specs.Effects.{verdict, lentEnd, memoryOf};
-ghost use Rattle.requests.specs.Requests.{takenState, nextOf, finishedWith, takenWith, dueWith, isFinished, erasedBy};
-ghost use Rattle.segment.specs.Segments.{isErase};
+ghost use Rattle.requests.specs.Requests.{takenState, nextOf, finishedWith, takenWith, dueWith};
 use effects::Outcome;
 use effects::take_effect;
 use jobs::job_differs;
@@ -16,18 +15,16 @@ use memory::DeviceAnswer;
 use memory::LogicalAddress;
 use plan::records::SubAreaRecord;
 use segment::Segment;
-use segment::is_erase;
 use segment::no_segment;
 use segment::segment_from;
 use state::DeviceState;
 use state::Job;
 
-// A job, its due segment and its device when the job's request has taken an answer, and how many bytes the request has erased.
+// A job, its due segment and its device when the job's request has taken an answer.
 pub struct Taken {
     pub job: Job,
     pub due: Segment,
     pub state: DeviceState,
-    pub erased: u64,
 }
 
 // With one poll more, is the request at its limit?
@@ -119,39 +116,6 @@ fn taken_state(area: u8, polls: u16, limit: u16, outcome: Outcome) -> DeviceStat
     }
 }
 
-fn is_finished(outcome: Outcome) -> bool
-    ensures { λ r. ⌜ r ≡ isFinished (verdict outcome) ⌝ }
-{
-    match outcome {
-        Outcome::GoesOn => false,
-        Outcome::Finished => true,
-        Outcome::Differs => false,
-        Outcome::Failed => false,
-    }
-}
-
-// Do the job's requests wear? Those of a cancelled job do too.
-fn wears(job: Job) -> bool
-    ensures { λ r. ⌜ r ≡ isErase (job .task .kind) ⌝ }
-{
-    let task = job.task;
-    let kind = task.kind;
-    is_erase(kind)
-}
-
-// What a request of this length has erased: only one that is finished wears.
-fn erased_by(job: Job, length: u64, outcome: Outcome) -> u64
-    ensures { λ r. ⌜ r ≡ erasedBy (verdict outcome) (job .task .kind) length ⌝ }
-{
-    if !is_finished(outcome) {
-        return 0;
-    }
-    if !wears(job) {
-        return 0;
-    }
-    length
-}
-
 // The request that a device with this poll limit runs for an area takes its answer: it is the due segment of the area's job,
 // `next` is the one behind, and the area's window starts at `window` in the store. `clears`: the device only clears bits.
 pub fn take_request(
@@ -171,7 +135,6 @@ pub fn take_request(
     ensures { λ r. ⌜ r .job ≡ takenWith (due .length) (next .retries) (verdictOf answer (job .task .kind) (due .start .0) (window + job .processed) (due .length) (memoryOf (now (image .entry)) (now (store .entry)))) (leb limit (polls + 1)) job ⌝ }
     ensures { λ r. ⌜ r .due ≡ dueWith due next (verdictOf answer (job .task .kind) (due .start .0) (window + job .processed) (due .length) (memoryOf (now (image .entry)) (now (store .entry)))) ⌝ }
     ensures { λ r. ⌜ r .state ≡ takenState area polls (verdictOf answer (job .task .kind) (due .start .0) (window + job .processed) (due .length) (memoryOf (now (image .entry)) (now (store .entry)))) (leb limit (polls + 1)) ⌝ }
-    ensures { λ r. ⌜ r .erased ≡ erasedBy (verdictOf answer (job .task .kind) (due .start .0) (window + job .processed) (due .length) (memoryOf (now (image .entry)) (now (store .entry)))) (job .task .kind) (due .length) ⌝ }
     ensures { λ _. ⌜ now (image .exit) ≡ answeredMemory clears answer (job .task .kind) (due .start .0) (window + job .processed) (due .length) (memoryOf (now (image .entry)) (now (store .entry))) .image ⌝ }
     ensures { λ _. ⌜ now (store .exit) ≡ answeredMemory clears answer (job .task .kind) (due .start .0) (window + job .processed) (due .length) (memoryOf (now (image .entry)) (now (store .entry))) .store ⌝ }
 {
@@ -182,14 +145,8 @@ pub fn take_request(
     let n = due.length as usize;
     let outcome = take_effect(clears, answer, kind, at, place, n, image, store);
     let dropped = is_dropped(polls, limit);
-    let erased = erased_by(job, due.length, outcome);
     let job = taken_job(job, due.length, next.retries, outcome, dropped);
     let due = taken_due(due, next, outcome);
     let state = taken_state(area, polls, limit, outcome);
-    Taken {
-        job,
-        due,
-        state,
-        erased,
-    }
+    Taken { job, due, state }
 }

@@ -10,7 +10,9 @@ ghost use Rattle.close.specs.Close.{areasAfter, devicesAfter, wearOf, halvesOf}
 ghost use Rattle.rounds.specs.laws.NeedLaws.{needsOf};
 ghost use Rattle.effects.specs.Effects.{memoryOf};
 ghost use Rattle.state.specs.Ages.{ageIn};
+use answers::erased_bytes;
 use answers::take_answer;
+use answers::wear_place;
 use close::closed_area;
 use devices::state_on;
 use machine::soundness::runner;
@@ -72,6 +74,23 @@ pub fn run_round(
     let sub_areas = plan.sub_areas;
     let records = plan.areas;
     let device_records = plan.devices;
+    // the wear first: what the answers finish is told by the state before them
+    let mut k = 0;
+    while k < plan.device_count {
+        let device = devices[k];
+        let state = device.state;
+        let area = runner(state);
+        let entry = areas[area];
+        let due = dues[area];
+        let length = erased_bytes(state, answers[k], entry.job, due.length);
+        if 0 < length {
+            let place = wear_place(due);
+            let sub_area = sub_areas[place];
+            let sectors = sectors_in(length, sub_area.erase.unit);
+            wear[place] = worn_to(wear[place], sectors);
+        }
+        k += 1;
+    }
     let mut d = 0;
     while d < plan.device_count {
         let device = devices[d];
@@ -96,14 +115,6 @@ pub fn run_round(
         areas[area] = entry;
         dues[area] = due;
         devices[d] = device;
-        let erased = turn.erased;
-        // few turns finish an erase
-        if 0 < erased.length {
-            let place = erased.place();
-            let sub_area = sub_areas[place];
-            let sectors = sectors_in(erased.length, sub_area.erase.unit);
-            wear[place] = worn_to(wear[place], sectors);
-        }
         d += 1;
     }
     let needs = needed_devices(dues);

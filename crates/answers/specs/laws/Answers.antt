@@ -3,7 +3,6 @@ use Prim.Native.Nat.{ℕ, _+_, _≤_}
 use mathlib.Core.List.{List}
 use lib.Dec.{leb}
 use lib.ListN.{length}
-use Rattle.arith.specs.Cases.{pick}
 use Rattle.memory.specs.declared.DeviceAnswer.{DeviceAnswer}
 use Rattle.plan.specs.declared.records.AreaRecord.{AreaRecord}
 use Rattle.plan.specs.declared.records.DeviceRecord.{DeviceRecord}
@@ -15,8 +14,7 @@ use Rattle.state.specs.declared.Area.{Area}
 use Rattle.state.specs.declared.DeviceState.{DeviceState}
 use Rattle.state.specs.declared.DeviceState.the-variants.{Free, Runs, LockedFor}
 use Rattle.effects.specs.Effects.{lentEnd}
-use Rattle.requests.specs.Requests.{takenState, takenWith, dueWith, nextOf, erasedBy}
-use Rattle.answers.specs.declared.Erased.{Erased}
+use Rattle.requests.specs.Requests.{takenState, takenWith, dueWith, nextOf}
 
 -- image and store hold what a running request needs of them
 abbrev pub Lent : AreaRecord → Area → Segment → List ℕ → List ℕ → DeviceState → Type 0
@@ -31,7 +29,7 @@ Lent place x s image store (Runs a polls) =
 abbrev turnVerdict : AreaRecord → Area → Segment → DeviceAnswer → Memory → Verdict
 turnVerdict place x s y m = verdictOf y (x .job .task .kind) (s .start .0) (place .window .start + x .job .processed) (s .length) m
 
--- area, due segment and device after the answer, what was erased, and the memory
+-- area, due segment, device and memory after the answer
 abbrev pub turnArea : List SubAreaRecord → ℕ → AreaRecord → DeviceRecord → Area → Segment → DeviceAnswer → Memory → DeviceState → Area
 turnArea l n place holder x s y m Free = x
 turnArea l n place holder x s y m (LockedFor a) = x
@@ -50,19 +48,6 @@ abbrev pub turnState : AreaRecord → DeviceRecord → Area → Segment → Devi
 turnState place holder x s y m Free = Free
 turnState place holder x s y m (LockedFor a) = LockedFor a
 turnState place holder x s y m (Runs a polls) = takenState a polls (turnVerdict place x s y m) (leb (holder .«poll_limit») (polls + 1))
-
-abbrev pub nothingErased : Erased
-nothingErased = record { «sub_area» = 0; length = 0 }
-
--- the sum that a sub-area's wear adds to
-abbrev pub wearPlace : ℕ → ℕ
-wearPlace i = pick (leb 32 i) 0 i
-
-abbrev pub turnErased : AreaRecord → Area → Segment → DeviceAnswer → Memory → DeviceState → Erased
-turnErased place x s y m Free = nothingErased
-turnErased place x s y m (LockedFor a) = nothingErased
-turnErased place x s y m (Runs a polls) =
-    record { «sub_area» = s .«sub_area»; length = erasedBy (turnVerdict place x s y m) (x .job .task .kind) (s .length) }
 
 abbrev pub turnMemory : AreaRecord → DeviceRecord → Area → Segment → DeviceAnswer → Memory → DeviceState → Memory
 turnMemory place holder x s y m Free = m

@@ -1,7 +1,7 @@
 use Prim.Native.Nat.{_+_}
 use lib.Dec.{leb}
 use mathlib.Core.Path.{ap, _∙_}
-use Rattle.requests.specs.Requests.{takenState, takenWith, dueWith, erasedBy}
+use Rattle.requests.specs.Requests.{takenState, takenWith, dueWith}
 use borrow.Author.Needs.{needs}
 use Rattle.requests.proofs.take_request.Statement.{statement}
 use Rattle.requests.proofs.take_request.Tie as tie
@@ -9,7 +9,6 @@ use Rattle.requests.proofs.take_request.Reads as reads
 use Rattle.requests.proofs.take_request.Lts as lts
 use Rattle.effects.proofs.take_effect.Reads as take-effect-reads
 use Rattle.requests.proofs.is_dropped.Reads as is-dropped-reads
-use Rattle.requests.proofs.erased_by.Reads as erased-by-reads
 use Rattle.requests.proofs.taken_due.Reads as taken-due-reads
 use Rattle.requests.proofs.taken_job.Reads as taken-job-reads
 use Rattle.requests.proofs.taken_state.Reads as taken-state-reads
@@ -25,9 +24,6 @@ take-effect-requires c κs = search needs
 
 is-dropped-requires : tie.Need-is-dropped-requires
 is-dropped-requires c κs = search needs
-
-erased-by-requires : tie.Need-erased-by-requires
-erased-by-requires c κs = search needs
 
 taken-job-requires : tie.Need-taken-job-requires
 taken-job-requires c κs = search needs
@@ -45,22 +41,7 @@ same-length-2 : tie.Need-same-length-2
 same-length-2 c = search needs
 
 returns : tie.Need-returns
-returns c =
-    let a = c .before .before .before .before .before .before .before .before .before .before .before .before .before .before .before .before .args in
-    let effect = c .before .before .before .before .before .before .before .before .before .take-effect .ensures in (
-      c .before .before .taken-job .ensures
-          ∙ (λ i. takenWith (a .due .length) (a .next .retries) (effect .0 i) (c .before .before .before .before .is-dropped .ensures i) (a .job)),
-      (
-        c .before .taken-due .ensures ∙ ap (dueWith (a .due) (a .next)) (effect .0),
-        (
-          c .taken-state .ensures ∙ ap (λ u. takenState (a .area) (a .polls) u (leb (a .limit) (a .polls + 1))) (effect .0),
-          (
-            c .before .before .before .erased-by .ensures ∙ ap (λ u. erasedBy u (a .job .task .kind) (a .due .length)) (effect .0),
-            (effect .1 .0, effect .1 .1),
-          ),
-        ),
-      ),
-    )
+returns c = (c .before .before .taken-job .ensures ∙ (λ i. takenWith (c .before .before .before .before .before .before .before .before .before .before .before .before .before .before .before .args .due .length) (c .before .before .before .before .before .before .before .before .before .before .before .before .before .before .before .args .next .retries) (c .before .before .before .before .before .before .before .before .take-effect .ensures .0 i) (c .before .before .before .is-dropped .ensures i) (c .before .before .before .before .before .before .before .before .before .before .before .before .before .before .before .args .job)), (c .before .taken-due .ensures ∙ ap (dueWith (c .before .before .before .before .before .before .before .before .before .before .before .before .before .before .before .args .due) (c .before .before .before .before .before .before .before .before .before .before .before .before .before .before .before .args .next)) (c .before .before .before .before .before .before .before .before .take-effect .ensures .0), (c .taken-state .ensures ∙ ap (λ u. takenState (c .before .before .before .before .before .before .before .before .before .before .before .before .before .before .before .args .area) (c .before .before .before .before .before .before .before .before .before .before .before .before .before .before .before .args .polls) u (leb (c .before .before .before .before .before .before .before .before .before .before .before .before .before .before .before .args .limit) (c .before .before .before .before .before .before .before .before .before .before .before .before .before .before .before .args .polls + 1))) (c .before .before .before .before .before .before .before .before .take-effect .ensures .0), (c .before .before .before .before .before .before .before .before .take-effect .ensures .1 .0, c .before .before .before .before .before .before .before .before .take-effect .ensures .1 .1))))
 
 pub take-request-spec : {M : Type 1} → statement M
 take-request-spec =
@@ -70,7 +51,6 @@ take-request-spec =
     add-place
     take-effect-requires
     is-dropped-requires
-    erased-by-requires
     taken-job-requires
     taken-due-requires
     taken-state-requires

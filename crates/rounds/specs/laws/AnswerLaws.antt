@@ -18,7 +18,8 @@ use Rattle.rules.specs.Admission.{imageFits, storeReaches}
 use Rattle.rules.specs.Layout.{layoutOf}
 use Rattle.rules.specs.Machine.{Core, Verdict, doing, takeOn, takeAnswer}
 use Rattle.rules.specs.Memory.{Memory}
-use Rattle.rules.specs.Round.{Half, takeIn, takeAll}
+use Rattle.rules.specs.laws.StepLaws.{take-case, take-leaves}
+use Rattle.rules.specs.Round.{Half, takeIn, takeAll, answerFor}
 use Rattle.segment.specs.Segments.{segmentAt}
 use Rattle.state.specs.declared.Area.{Area}
 use Rattle.state.specs.declared.Device.{Device}
@@ -113,8 +114,33 @@ later-sound p answers h all (suc n) k l m =
     stays-sound p n k (λ e. omega arith) _ (takeAll p answers n h .core) (later-sound p answers h all n n (omega arith) (omega arith))
     (later-sound p answers h all n k (omega arith) m)
 
+-- and it is as it was before the round, with the job of its request
+module _ (p : Plan) (answers : List DeviceAnswer) (h : Half)
+    (all : (d : ℕ) → d < p .«device_count» → stateSound p d (h .core .jobs) (h .core .devices d .state) ≡ true) where
+  pub later-device : (n k : ℕ) → n ≤ k → takeAll p answers n h .core .devices k ≡ h .core .devices k
+  unfolding takeAll takeIn
+  later-device zero k l = refl
+  later-device (suc n) k l = take-leaves _ n k _ _ (λ f. omega arith) ∙ later-device n k (omega arith)
+
+  pub later-job : (n k a q : ℕ) → n ≤ k → k < p .«device_count» → h .core .devices k .state ≡ Runs a q → takeAll p answers n h .core .jobs a ≡ h .core .jobs a
+  unfolding takeAll
+  later-job zero k a q l m e = refl
+  later-job (suc n) k a q l m e =
+      let here = later-sound p answers h all n k (omega arith) m in
+      let there = later-sound p answers h all n n (omega arith) (omega arith) in
+      take-case p n (answerFor answers n) (takeAll p answers n h) a (λ j _. j ≡ h .core .jobs a)
+      (λ r f.
+      absurd
+      (omega
+      (arith, request-device p n a r _ (rw f at there), request-device p k a q _ (rw (later-device n k (omega arith), e) at here))))
+      (later-job n k a q (omega arith) m e)
+
 -- what a sound state has for the loop
 module _ (p : Plan) (areas : List Area) (devices : List Device) (sound : isSound p areas devices ≡ true) where
+  pub all-sound : (d : ℕ) → d < p .«device_count» → stateSound p d (jobIn areas) (stateIn devices d) ≡ true
+  unfolding isSound
+  all-sound = every-elim _ _ ((simp and-plain at sound) .1)
+
   pub turn-sound : (answers : List DeviceAnswer) (m : Memory) (n : ℕ) (c : Core) → c ≡ takeAll p answers n (lentTo areas devices m) .core → n < p .«device_count» →
       stateSound p n (c .jobs) (c .devices n .state) ≡ true
   unfolding isSound

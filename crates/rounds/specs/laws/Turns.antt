@@ -1,10 +1,10 @@
 -- The first half of a round, as the code goes: a device at a time, with the due segments that were found before it.
-use Prim.Native.Nat.{ℕ, _+_, _≤_, _<_}
+use Prim.Native.Nat.{ℕ, _≤_, _<_}
 use mathlib.Core.Bool.{true}
 use mathlib.Core.List.{List}
 use mathlib.Core.Path.{_≡_, refl, sym, ap, subst, _∙_}
 use native.Mathlib.Omega.{arith}
-use borrow.Author.Tests.{lt-ltb, lt-leb}
+use borrow.Author.Tests.{lt-ltb}
 use lib.ListN.{length, getD, set}
 use Rattle.arith.specs.Parts.{upd, upd-case}
 use Rattle.devices.specs.laws.ArrayLaws.{view-set, job-set}
@@ -19,11 +19,8 @@ use Rattle.plan.specs.declared.records.Plan.{Plan}
 use Rattle.plan.specs.declared.records.SubAreaRecord.{SubAreaRecord}
 use Rattle.rules.specs.Admission.{imageFits, storeReaches}
 use Rattle.rules.specs.Machine.{isPending, doing}
-use Rattle.rules.specs.Memory.{Memory, verdictOf}
-use Rattle.rules.specs.Layout.{layoutOf}
-use Rattle.rules.specs.Round.{verdictOn, takeIn, erasesOn}
-use Rattle.rules.specs.Wear.{wearAfter}
-use Rattle.segment.specs.laws.Found.{sub-area-room}
+use Rattle.rules.specs.Memory.{Memory}
+use Rattle.rules.specs.Round.{takeIn}
 use Rattle.segment.specs.Segments.{noSegment, segmentAt}
 use Rattle.segment.specs.declared.Segment.{Segment}
 use Rattle.state.specs.Fresh.{freshArea}
@@ -33,11 +30,9 @@ use Rattle.state.specs.declared.DeviceState.{DeviceState}
 use Rattle.state.specs.declared.DeviceState.the-variants.{Free, Runs, LockedFor}
 use Rattle.state.specs.declared.Job.{Job}
 use Rattle.requests.specs.Requests.{Fits, request-fits, job-taken, due-taken, state-taken, memory-taken, found-fits}
-use Rattle.answers.specs.laws.Answers.{Lent, turnArea, turnState, turnDue, wearPlace, turnErased, turnMemory}
-use Rattle.answers.specs.declared.Erased.{Erased}
+use Rattle.answers.specs.laws.Answers.{Lent, turnArea, turnState, turnDue, turnMemory}
 use Rattle.rounds.specs.laws.AnswerLaws.{core-kept, free-core, free-memory, locked-core, locked-memory, runs-core, runs-memory}
 use Rattle.rounds.specs.laws.Halves.{both}
-use Rattle.rounds.specs.laws.WearTurns.{wornOne, wear-none, worn-turn, Within}
 use Rattle.close.specs.Close.{lentTo}
 
 -- one due segment more
@@ -93,25 +88,6 @@ module _ (p : Plan) (few : p .«area_count» ≤ 8) (d : ℕ) (y : DeviceAnswer)
       rw (f, lt-ltb a 8 (runs-known a polls e))
       (memory-taken p d a polls (jobIn areas a) y m (due a) (runs-due a polls e) ∙ runs-memory p d y areas devices m a polls e)
 
-  -- the sums with what the turn erased are those of the rules
-  module _ (room : p .«sub_area_count» ≤ 32) (es : List Segment) (start w : List ℕ) (was : w ≡ wearAfter p es start) (within : Within w) where
-    -- the sub-area of a request that runs has a place
-    runs-place : (a polls : ℕ) → stateIn devices d ≡ Runs a polls → wearPlace (due a .«sub_area») ≡ due a .«sub_area»
-    runs-place a polls e = rw (lt-leb 32 (due a .«sub_area») (rw (runs-due a polls e) (sub-area-room p room a _ _)))
-
-    turn-wear : (x : DeviceState) → stateIn devices d ≡ x → (k : ℕ) → k ≡ runnerOf x → (o : Erased) →
-        o ≡ turnErased (areaOf (p .areas) k) (entry k) (due k) y m x →
-        wornOne p w (wearPlace (o .«sub_area»)) (o .length) ≡ wearAfter p (erasesOn p x (verdictOn p x y (jobIn areas) m) (jobIn areas) es) start
-    unfolding layoutOf
-    turn-wear Free e k f o = λ h. rw h (wear-none p w 0 (within 0) ∙ was)
-    turn-wear (LockedFor a) e k f o = λ h. rw h (wear-none p w 0 (within 0) ∙ was)
-    turn-wear (Runs a polls) e k f o =
-        rw (f, lt-ltb a 8 (runs-known a polls e), ← (runs-due a polls e))
-        (λ h.
-        rw (h, runs-place a polls e)
-        (worn-turn p (jobIn areas a .task .kind) (due a) es start w was (within (due a .«sub_area»))
-        (verdictOf y (jobIn areas a .task .kind) (due a .start .0) (areaOf (p .areas) a .window .start + jobIn areas a .processed) (due a .length) m)))
-
   module _ (areas-are : length areas ≡ 8) (devices-are : length devices ≡ 4) (dues-are : length dues ≡ 8) (there : d < 4) where
     kept : {x : DeviceState} → x ≡ stateIn devices d → doing x (deviceIn devices d) ≡ deviceIn devices d
     kept e = ap (λ x. doing x (deviceIn devices d)) e
@@ -156,12 +132,6 @@ module _ (p : Plan) (few : p .«area_count» ≤ 8) (d : ℕ) (y : DeviceAnswer)
       (holders-are : holders ≡ p .devices) (k : ℕ) (k-is : k ≡ runnerOf (stateIn devices d)) where
     pub lent-turn : Lent (areaOf records k) (entry k) (due k) image store (stateIn devices d)
     lent-turn = rw records-are (turn-lent (stateIn devices d) refl k k-is)
-
-    pub wear-turn : p .«sub_area_count» ≤ 32 → (es : List Segment) (start w : List ℕ) → w ≡ wearAfter p es start → Within w → (o : Erased) →
-        o ≡ turnErased (areaOf records k) (entry k) (due k) y m (stateIn devices d) →
-        wornOne p w (wearPlace (o .«sub_area»)) (o .length)
-        ≡ wearAfter p (erasesOn p (stateIn devices d) (verdictOn p (stateIn devices d) y (jobIn areas) m) (jobIn areas) es) start
-    wear-turn room es start w was within o = rw records-are (turn-wear room es start w was within (stateIn devices d) refl k k-is o)
 
     -- what the turn leaves: arrays and memory are those of the rules, and the due segments go along
     pub whole-turn : length areas ≡ 8 → length devices ≡ 4 → length dues ≡ 8 → d < 4 → (r : Area) (s : Segment) (z : Device) (i t : List ℕ) →
