@@ -1,8 +1,8 @@
 -- document 02, 05: every erase in the history is whole sectors of its sub-area.
-use Prim.Native.Nat.{ℕ, zero, suc, _+_, _*_, _≤_, _<_}
+use Prim.Native.Nat.{ℕ, zero, suc, _+_}
 use mathlib.Core.Bool.{Bool, true, false, false≢true}
 use mathlib.Core.List.{List, [], _∷_, _++_}
-use mathlib.Core.Path.{_≡_, refl, sym, ap, subst, _∙_}
+use mathlib.Core.Path.{_≡_, refl, sym, ap, _∙_}
 use native.Mathlib.Nat.{le-refl}
 use native.Mathlib.Omega.{arith}
 use Rattle.arith.specs.Cases.{by-eqb}
@@ -19,9 +19,9 @@ use Rattle.state.specs.declared.DeviceState.{DeviceState}
 use Rattle.state.specs.declared.DeviceState.the-variants.{Free, Runs, LockedFor}
 use Rattle.state.specs.declared.Job.{Job}
 use Rattle.rules.specs.Admission.{admits, jobNumber, releaseNumber, cancelNumber, roundNumber}
-use Rattle.rules.specs.History.{Call, submit, releases, cancels, asks, round, History, lent, freshHistory, roundOf, submitted, step, run}
+use Rattle.rules.specs.History.{Call, submit, releases, cancels, asks, round, History, lent, roundOf, submitted, step, run}
 use Rattle.rules.specs.Layout.{layoutOf}
-use Rattle.rules.specs.Machine.{Core, Verdict, goesOn, finished, differs, failed, due}
+use Rattle.rules.specs.Machine.{Verdict, goesOn, finished, differs, failed, due}
 use Rattle.rules.specs.Round.{Half, answerFor, verdictIn, takeAll, addErase, erasesOn, erasesTo, roundErases}
 use Rattle.rules.specs.Wear.{sectorsOf}
 use Rattle.rules.specs.laws.PlanLaws.{admitted}

@@ -1,27 +1,24 @@
 -- document 02, 05: the sums that a manager keeps are those of the erases done, or the limit.
 use Prim.Native.Nat.{ℕ, _+_, _*_, _≤_, _<_}
-use mathlib.Core.Bool.{true, false}
 use mathlib.Core.List.{List, [], _∷_, _++_}
 use mathlib.Core.Path.{_≡_, refl, sym, ap, _∙_}
 use native.Mathlib.Nat.{zero-add, div-mul-cancel}
 use native.Mathlib.Omega.{arith}
-use lib.Dec.{eqb}
-use lib.ListN.{length, getD, set, length-set}
+use lib.ListN.{length, getD, length-set}
 use lib.Seq.{getD-set-same, getD-set-other}
-use Rattle.arith.specs.Cases.{pick, by-eqb}
+use Rattle.arith.specs.Cases.{by-eqb}
 use Rattle.memory.specs.declared.JobType.the-variants.{Erase}
 use Rattle.memory.specs.declared.LogicalAddress.{LogicalAddress}
 use Rattle.memory.specs.declared.Task.{Task}
 use Rattle.plan.specs.Questions.{areaOf, subAreaOf}
 use Rattle.plan.specs.declared.records.Plan.{Plan}
 use Rattle.segment.specs.Mapping.{mapped}
-use Rattle.segment.specs.Segments.{unitOf}
 use Rattle.segment.specs.declared.Found.{Found}
 use Rattle.segment.specs.declared.Found.the-variants.{Outside, At}
 use Rattle.segment.specs.declared.Segment.{Segment}
 use Rattle.segment.specs.laws.Found.{index-within, located-mapped}
 use Rattle.segment.specs.laws.SegmentLaws.{Good}
-use Rattle.wear.specs.Wear.{mostWear, sectorsIn, wornTo, chargeOf}
+use Rattle.wear.specs.Wear.{sectorsIn, wornTo, chargeOf}
 use Rattle.wear.specs.laws.WearLaws.{worn-more}
 use Rattle.rules.specs.Wear.{sectorsOf, wornIn, stuckWear, wearAfter, wornAt, wearInfoAt, wearInfoOf}
 

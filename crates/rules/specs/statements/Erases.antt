@@ -1,5 +1,5 @@
 -- document 02, 05: the erases done, of which the wear account speaks
-use Prim.Native.Nat.{ℕ, _+_, _*_, _≤_, _<_}
+use Prim.Native.Nat.{_+_, _*_, _≤_, _<_}
 use mathlib.Core.List.{List, [], _∷_}
 use mathlib.Core.Path.{_≡_}
 use Rattle.plan.specs.Questions.{subAreaOf, endOf}

@@ -1,4 +1,4 @@
-use mathlib.Core.Path.{refl, sym, _∙_}
+use mathlib.Core.Path.{refl, sym}
 use native.Mathlib.Nat.{div-zero}
 use Rattle.wear.specs.Wear.{sectorsIn}
 use borrow.Author.Needs.{needs}

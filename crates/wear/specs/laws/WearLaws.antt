@@ -1,6 +1,6 @@
 -- The charge is the least number of whole millionths, and fits 64 bits; a sum that sticks is the sum without a limit, or the limit.
 use Prim.Native.Nat.{ℕ, _+_, _*_, _/_, _%_, _≤_, _<_, min}
-use mathlib.Core.Path.{_≡_, sym, _∙_}
+use mathlib.Core.Path.{_≡_}
 use native.Mathlib.Nat.{div-le-of-le-mul, div-lt-self, zero-mod, mod-one, div-lt-iff-lt-mul, div-add-mod', lt-mul-div-succ, mul-mod-left, mul-comm}
 use native.Mathlib.Omega.{arith}
 use borrow.Author.Tests.{ne-eqb, eq-eqb}

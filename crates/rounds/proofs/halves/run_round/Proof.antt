@@ -4,7 +4,6 @@ use mathlib.Core.Path.{_≡_, refl, ap, _∙_}
 use native.Mathlib.Omega.{arith}
 use lib.ListN.{length, getD, length-set}
 use mathlib.Core.Logic.{⊎-elim}
-use Prim.Native.Nat.{_<_}
 use Rattle.answers.specs.Erased.{wearPlace}
 use Rattle.rules.specs.Wear.{wearAfter}
 use Rattle.segment.specs.Segments.{noSegment}
