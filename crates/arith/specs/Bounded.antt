@@ -6,7 +6,8 @@ use mathlib.Core.Logic.{⊎-elim}
 use native.Mathlib.Omega.{arith}
 use native.Mathlib.Nat.{eq-or-lt-of-le, le-of-suc-le-suc, le-refl, suc-mul}
 use native.Mathlib.Numerals.{add-one}
-use Rattle.arith.specs.Cases.{by-bool, and-elim, and-intro}
+use lib.Dec.{eqb}
+use Rattle.arith.specs.Cases.{pick, by-bool, by-eqb, and-elim, and-intro}
 
 -- p holds of every number below n
 unfoldable pub every : (ℕ → Bool) → ℕ → Bool
@@ -114,3 +115,31 @@ module _ (f : ℕ → ℕ) where
       below-suc i (suc j) (omega arith)
       (λ e. rw e (le-refl _))
       (λ g. omega (arith, rises n h i j (omega arith) (omega arith), rw add-one at (h j (omega arith))))
+
+-- m numbers below n, no two of them alike, are at most n
+pub at-most : (n m : ℕ) (f : ℕ → ℕ) → ((i : ℕ) → i < m → f i < n) → ((i j : ℕ) → i < m → j < m → f i ≡ f j → i ≡ j) → m ≤ n
+at-most zero zero f below once = omega arith
+at-most zero (suc m) f below once = absurd (omega (arith, below 0 (omega arith)))
+at-most (suc n) zero f below once = omega arith
+at-most (suc n) (suc m) f below once = omega (arith, at-most n m rest rest-below rest-once)
+  where
+    -- all but the last; where one is n, the last stands for it
+    rest : ℕ → ℕ
+    rest i = pick (eqb (f i) n) (f m) (f i)
+
+    not-last : (i : ℕ) → i < m → f i ≡ f m → ⊥
+    not-last i h e = omega (arith, once i m (omega arith) (omega arith) e)
+
+    rest-below : (i : ℕ) → i < m → rest i < n
+    rest-below i h =
+        by-eqb (f i) n
+        (λ t e.
+        let other : f m ≡ n → ⊥ = λ d. not-last i h (e ∙ sym d) in
+        rw t (omega (arith, other, below m (omega arith))))
+        (λ t e. rw t (omega (arith, e, below i (omega arith))))
+
+    rest-once : (i j : ℕ) → i < m → j < m → rest i ≡ rest j → i ≡ j
+    rest-once i j h k =
+        by-eqb (f i) n
+        (λ t e. by-eqb (f j) n (λ _ d _. once i j (omega arith) (omega arith) (e ∙ sym d)) (λ u _. rw (t, u) (λ q. absurd (not-last j k (sym q)))))
+        (λ t _. by-eqb (f j) n (λ u _. rw (t, u) (λ q. absurd (not-last i h q))) (λ u _. rw (t, u) (once i j (omega arith) (omega arith))))

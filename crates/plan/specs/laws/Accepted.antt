@@ -1,9 +1,9 @@
 -- What the number of loading says.
 use Prim.Native.Nat.{ℕ, suc, _+_, _-_, _≤_, _<_}
 use mathlib.Core.Path.{_≡_, refl, sym, ap, _∙_}
-use mathlib.Core.Bool.{Bool, true, false}
+use mathlib.Core.Bool.{Bool, true, false, true≢false}
 use mathlib.Core.List.{List, [], _∷_}
-use mathlib.Core.Logic.{_↔_, _⊎_, inl, inr, _≢_}
+use mathlib.Core.Logic.{_↔_, _⊎_, inl, inr, ⊎-elim, _≢_}
 use lib.Dec.{eqb}
 use lib.ListN.{length, getD, List·getD-eq-default}
 use borrow.Author.Tests.{ne-eqb}
@@ -36,7 +36,7 @@ use Rattle.plan.specs.Questions.{
   loadNumber,
 }
 use Rattle.plan.specs.laws.QuestionLaws.{start-due, all-apart, granular}
-use Rattle.plan.specs.laws.WearLaws.{wear-formed, endurance-named, endurance-none}
+use Rattle.plan.specs.laws.WearLaws.{wear-formed, wear-most, endurance-named, endurance-none}
 use Rattle.plan.specs.WellFormed.{WellFormed, WearFormed}
 
 -- questions 1 to 8
@@ -191,3 +191,20 @@ module _ (l : List ℕ) where
       by-eqb (firstNo 1 (eight l)) 0
       (λ q _. by-bool (wearFits l) (λ f. rw (q, f) (inl (omega arith))) (λ f. rw (q, f) (inr refl)))
       (λ q _. rw q (inl eight-range))
+
+  -- document 02, 05: an accepted plan has at most 32 wear records
+  most-wear : loadNumber l ≡ 0 → wearCount l ≤ 32
+  unfolding planOf
+  most-wear e =
+      let a = accepted l .0 e in
+      omega (arith, wear-most (wearOf l) _ _ (a .2), a .1 .sub-area-most)
+
+  -- and more of them, where questions 1 to 8 say "yes", are for 20 to refuse
+  pub too-many-wear : 32 < wearCount l → ((i : ℕ) → 1 ≤ i → i ≤ 8 → question l i ≡ true) → loadNumber l ≡ 20
+  too-many-wear more before = ⊎-elim (λ h. absurd (not-before h)) (λ e. e) number-range
+    where
+      not-before : loadNumber l ≤ 8 → ⊥
+      not-before h =
+          by-eqb (loadNumber l) 0
+          (λ _ e. omega (arith, most-wear e))
+          (λ _ ne. true≢false (sym (before (loadNumber l) (omega arith) h) ∙ refused (loadNumber l) refl (omega arith) .1))

@@ -9,7 +9,7 @@ use native.Mathlib.Numerals.{add-one}
 use borrow.Author.Tests.{eq-eqb, ne-eqb, eqb-true, lt-ltb, le-ltb, le-leb, lt-leb}
 use lib.Dec.{ltb, eqb}
 use lib.ListN.{set}
-use Rattle.arith.specs.Bounded.{every, every-elim, every-intro, some-elim, some-intro, below-suc}
+use Rattle.arith.specs.Bounded.{every, every-elim, every-intro, some-elim, some-intro, below-suc, at-most}
 use Rattle.arith.specs.Cases.{by-bool, by-ltb}
 use Rattle.arith.specs.Plain.{plain}
 use Rattle.arith.specs.Tables.{table, table-same, table-set}
@@ -57,6 +57,10 @@ module _ (w : ℕ → WearRecord) where
         every-intro _ n λ i h.
         fits subAreas i .1 (f .known i h, f .endurance-some i h, λ j l q. omega (arith, f .once j i (omega arith) h q)),
   )
+
+  -- no more records than sub-areas
+  pub wear-most : (subAreas n : ℕ) → WearFormed w subAreas n → n ≤ subAreas
+  wear-most subAreas n f = at-most subAreas n (λ i. w i .«sub_area») (f .known) (f .once)
 
   -- the endurance by the records is that of the one that names the sub-area
   pub endurance-named : (n : ℕ) → ((i j : ℕ) → i < n → j < n → w i .«sub_area» ≡ w j .«sub_area» → i ≡ j) → (i : ℕ) → i < n →
