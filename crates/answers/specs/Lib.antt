@@ -1,2 +1,2 @@
-pub mod Erased
+pub mod Worn
 pub mod laws

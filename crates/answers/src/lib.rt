@@ -1,9 +1,9 @@
 // The first half of a round: a device with a running request takes its answer. And what its answer wears.
 ghost use mathlib.Core.Path.{_≡_};
-ghost use Prim.Native.Nat.{_≤_, _<_};
+ghost use Prim.Native.Nat.{_≤_};
 ghost use Rattle.rules.specs.Machine.{doing};
 ghost use Rattle.answers.specs.laws.Answers.{Lent, turnArea, turnState, turnDue, turnMemory};
-ghost use Rattle.answers.specs.Erased.{isDone, erasedBytes, wearPlace};
+ghost use Rattle.answers.specs.Worn.{isDone, wornOn};
 ghost use Rattle.segment.specs.Segments.{isErase};
 ghost use Rattle.effects.specs.Effects.{memoryOf};
 use memory::DeviceAnswer;
@@ -18,6 +18,8 @@ use state::Area;
 use state::Device;
 use state::DeviceState;
 use state::Job;
+use wear::Worn;
+use wear::sectors_in;
 
 // What a device's answer makes of the device, and of the area that its request is for.
 pub struct Turn {
@@ -108,32 +110,24 @@ fn wears(job: Job) -> bool
     is_erase(kind)
 }
 
-// How many bytes of its request a device says that it has erased: only a done erase wears. The job is that of the area that the request is for.
-pub fn erased_bytes(state: DeviceState, answer: DeviceAnswer, job: Job, length: u64) -> u64
-    ensures { λ r. ⌜ r ≡ erasedBytes state answer (job .task .kind) length ⌝ }
+// What a device's answer wears, before it is taken: the sectors of its request, if that is an erase and done. Job and due segment are those of the area that
+// the request is for.
+pub fn worn_by(state: DeviceState, answer: DeviceAnswer, job: Job, due: Segment) -> Worn
+    ensures { λ r. ⌜ r ≡ wornOn state answer (job .task .kind) due ⌝ }
 {
     match state {
-        DeviceState::Free => 0,
-        DeviceState::LockedFor(_) => 0,
+        DeviceState::Free => Worn::none(),
+        DeviceState::LockedFor(_) => Worn::none(),
         DeviceState::Runs { area: _, polls: _ } => {
             if !is_done(answer) {
-                return 0;
+                return Worn::none();
             }
             if !wears(job) {
-                return 0;
+                return Worn::none();
             }
-            length
+            let sub_area = due.sub_area as usize;
+            let sectors = sectors_in(due.length, due.sector);
+            Worn { sub_area, sectors }
         }
     }
-}
-
-// The sum that a segment wears: its sub-area's, or any where the sums have no room for it, which is so of no segment that runs.
-pub fn wear_place(segment: Segment) -> usize
-    ensures { λ r. ⌜ (r ≡ wearPlace (segment .«sub_area»)) × (r < 32) ⌝ }
-{
-    let sub_area = segment.sub_area as usize;
-    if 32 <= sub_area {
-        return 0;
-    }
-    sub_area
 }

@@ -4,7 +4,7 @@ use mathlib.Core.Path.{_≡_, refl, sym, _∙_}
 use mathlib.Core.List.{List}
 use native.Mathlib.Omega.{arith}
 use native.Mathlib.Numerals.{add-one}
-use lib.ListN.{length, getD, set, replicate, length-set, length-replicate}
+use lib.ListN.{length, getD, set, replicate, length-set, length-replicate, getD-replicate}
 use lib.Seq.{getD-set-same, getD-set-other, ext-getD}
 use lib.Dec.{eqb}
 use Rattle.arith.specs.Bounded.{below-suc}
@@ -33,6 +33,11 @@ module _ {A : Type 0} (k : ℕ) (f : ℕ → A) (blank : A) where
       below-suc i n h
       (λ e. rw e (getD-set-same (table n) n (f n) d (rw (length-table n) l)))
       (λ g. getD-set-other (table n) n i (f n) d (λ e. omega arith) ∙ table-at n i d g (omega arith))
+
+  pub table-blank : (n i : ℕ) (d : A) → n ≤ i → i < k → getD (table n) i d ≡ blank
+  unfolding table
+  table-blank zero i d h l = getD-replicate k i blank d l
+  table-blank (suc n) i d h l = getD-set-other (table n) n i (f n) d (λ e. omega arith) ∙ table-blank n i d (omega arith) l
 
 -- equal entries, equal tables
 pub table-same : {A : Type 0} (k : ℕ) (f g : ℕ → A) (blank : A) (n : ℕ) → ((i : ℕ) → i < n → f i ≡ g i) → table k f blank n ≡ table k g blank n

@@ -65,5 +65,5 @@ unfoldable pub halvesOf : Plan → List Area → List Device → List ℕ → Li
 halvesOf p areas devices ages answers m = roundHalves p (ageIn ages) answers (lentTo areas devices m)
 
 -- document 02, 05: the sums of the sub-areas after a round, which no area and no device holds
-unfoldable pub wearOf : Plan → List Area → List Device → List DeviceAnswer → Memory → List ℕ → List ℕ
-wearOf p areas devices answers m wear = wearAfter p (roundErases p answers (lentTo areas devices m)) wear
+unfoldable pub wearAfterRound : Plan → List Area → List Device → List DeviceAnswer → Memory → List ℕ → List ℕ
+wearAfterRound p areas devices answers m wear = wearAfter p (roundErases p answers (lentTo areas devices m)) wear

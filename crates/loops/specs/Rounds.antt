@@ -13,7 +13,7 @@ use Rattle.memory.specs.declared.DeviceAnswer.the-variants.{Pending, Done, Fail
 use Rattle.effects.specs.Effects.{memoryOf}
 use Rattle.rules.specs.Memory.{Memory}
 use Rattle.rules.specs.Wear.{wornAt}
-use Rattle.loops.specs.Repeated.{total, turn}
+use Rattle.loops.specs.Repeated.{total}
 
 -- the answer of a number that C hands over: 0 pending, 1 done, any other failed after 2 bytes fewer
 unfoldable pub answerNumbered : ℕ → DeviceAnswer
@@ -58,7 +58,7 @@ bench-is m after image store x e f g = rw (e, f, g)
 
 -- what the jobs of the eight areas have processed and the first eight sub-areas have worn by, together
 abbrev pub leftTotal : Manager → ℕ → ℕ
-leftTotal = total (λ i x. x) (λ i m. processedOf m (turn i) + wornAt (m .wear) (turn i))
+leftTotal = total (λ i x. x) (λ i m. processedOf m i + wornAt (m .wear) i)
 
 -- after n rounds on a manager that are lent this memory: what stands, and the sum that the loop returns
 abbrev pub benchAfter : Manager → Memory → List DeviceAnswer → ℕ → Bench

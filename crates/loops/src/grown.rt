@@ -22,6 +22,7 @@ use memory::Task;
 use plan::records::Plan;
 use state::Area;
 use state::Device;
+use wear::add_worn;
 
 pub struct Grown {
     pub plan: Plan,
@@ -128,15 +129,14 @@ impl Grown {
         let areas = self.areas;
         let devices = self.devices;
         let ages = self.ages;
-        let wear = self.wear;
-        let change = round_change(self.plan, areas, devices, ages, wear, answers, image, store);
+        let change = round_change(self.plan, areas, devices, ages, answers, image, store);
         let answer = change.answer;
         let areas = change.areas;
         let devices = change.devices;
-        let wear = change.wear;
+        let worn = change.worn;
         self.areas = areas;
         self.devices = devices;
-        self.wear = wear;
+        add_worn(&mut self.wear, worn);
         GrownAnswered {
             answer,
             grown: self,
@@ -276,26 +276,16 @@ pub fn rounds_in_place(
         let areas = grown.areas;
         let devices = grown.devices;
         let ages = grown.ages;
-        let wear = grown.wear;
-        let change = round_change(
-            grown.plan,
-            areas,
-            devices,
-            ages,
-            wear,
-            answers,
-            image,
-            store,
-        );
+        let change = round_change(grown.plan, areas, devices, ages, answers, image, store);
         let told = change.answer;
         let number = told.number();
         sum += number as u64;
         let areas = change.areas;
         let devices = change.devices;
-        let wear = change.wear;
+        let worn = change.worn;
         grown.areas = areas;
         grown.devices = devices;
-        grown.wear = wear;
+        add_worn(&mut grown.wear, worn);
         i += 1;
     }
     let more = grown.more;

@@ -14,6 +14,7 @@ use manager::in_place::round_change;
 use memory::JobType;
 use memory::LogicalAddress;
 use memory::Task;
+use wear::add_worn;
 
 fn kind_of(kind: u8) -> JobType
     ensures { λ r. ⌜ r ≡ kindOf kind ⌝ }
@@ -185,26 +186,16 @@ pub fn rounds(
         let areas = manager.areas;
         let devices = manager.devices;
         let ages = manager.ages;
-        let wear = manager.wear;
-        let change = round_change(
-            manager.plan,
-            areas,
-            devices,
-            ages,
-            wear,
-            answers,
-            image,
-            store,
-        );
+        let change = round_change(manager.plan, areas, devices, ages, answers, image, store);
         let told = change.answer;
         let number = told.number();
         sum += number as u64;
         let areas = change.areas;
         let devices = change.devices;
-        let wear = change.wear;
+        let worn = change.worn;
         manager.areas = areas;
         manager.devices = devices;
-        manager.wear = wear;
+        add_worn(&mut manager.wear, worn);
         i += 1;
     }
     sum + left_sum(manager)

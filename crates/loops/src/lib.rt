@@ -163,8 +163,8 @@ pub(crate) fn left_sum(manager: Manager) -> u64
     let mut sum: u64 = 0;
     let mut i = 0;
     while i < 8 {
-        let asked = manager.processed(i % 8);
-        let worn = wide(manager.wear[i % 8]);
+        let asked = manager.processed(i);
+        let worn = wide(manager.wear[i]);
         sum += asked.processed as u64 + worn;
         i += 1;
     }

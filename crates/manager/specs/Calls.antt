@@ -17,7 +17,7 @@ use Rattle.memory.specs.declared.Task.{Task}
 use Rattle.plan.specs.declared.records.Plan.{Plan}
 use Rattle.changes.specs.Accepted.{ifAccepted}
 use Rattle.changes.specs.declared.Change.{Change}
-use Rattle.close.specs.Close.{waitsIn, areasAfter, devicesAfter, wearOf, halvesOf}
+use Rattle.close.specs.Close.{waitsIn, areasAfter, devicesAfter, wearAfterRound, halvesOf}
 use Rattle.rules.specs.Admission.{rangeDevice, jobQuestions, releaseQuestions, cancelQuestions, infoQuestions, memoryInfoQuestions, roundNumber}
 use Rattle.rules.specs.Layout.{Layout, layoutOf, layoutAt}
 use Rattle.rules.specs.Machine.{Core, begin, cancel, release}
@@ -156,7 +156,7 @@ afterRound m answers lent =
       areas = areasAfter (rankedOf m) (m .areas) after;
       devices = devicesAfter after;
       ages = m .ages;
-      wear = wearOf (m .plan) (m .areas) (m .devices) answers lent (m .wear);
+      wear = wearAfterRound (m .plan) (m .areas) (m .devices) answers lent (m .wear);
     })
     m
 

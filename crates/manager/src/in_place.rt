@@ -5,6 +5,7 @@ ghost use Prim.Native.Nat.{ℕ, _<_};
 ghost use mathlib.Core.List.{List};
 ghost use Rattle.memory.specs.Numbers.{admissionNumber};
 ghost use Rattle.effects.specs.Effects.{memoryOf};
+ghost use Rattle.wear.specs.Wear.{addWorn};
 ghost use Rattle.manager.specs.Calls.{managerOf, changed, jobNumberOf, afterJob, releaseNumberOf, afterRelease, cancelNumberOf, afterCancel, roundNumberOf, afterRound, memoryAfterRound};
 use admission::range_device;
 use changes::Change;
@@ -25,12 +26,13 @@ use rounds::halves::run_round;
 use state::Area;
 use state::Device;
 use state::DeviceState;
+use wear::Worn;
 
-// What a round changes.
+// What a round changes. The owner adds what it wears to the sums: `wear::add_worn`.
 pub struct RoundChange {
     pub areas: [Area; 8],
     pub devices: [Device; 4],
-    pub wear: [u32; 32],
+    pub worn: [Worn; 4],
     pub answer: Admission,
 }
 
@@ -114,15 +116,14 @@ pub fn round_change(
     areas: [Area; 8],
     devices: [Device; 4],
     ages: [u8; 8],
-    wear: [u32; 32],
     answers: [DeviceAnswer; 4],
     image: &mut [u8],
     store: &mut [u8],
 ) -> RoundChange
-    ensures { λ r. ⌜ admissionNumber (r .answer) ≡ roundNumberOf (managerOf plan areas devices ages wear) (memoryOf (now (image .entry)) (now (store .entry))) ⌝ }
-    ensures { λ r. ⌜ managerOf plan (r .areas) (r .devices) ages (r .wear) ≡ afterRound (managerOf plan areas devices ages wear) answers (memoryOf (now (image .entry)) (now (store .entry))) ⌝ }
-    ensures { λ _. ⌜ now (image .exit) ≡ memoryAfterRound (managerOf plan areas devices ages wear) answers (memoryOf (now (image .entry)) (now (store .entry))) .image ⌝ }
-    ensures { λ _. ⌜ now (store .exit) ≡ memoryAfterRound (managerOf plan areas devices ages wear) answers (memoryOf (now (image .entry)) (now (store .entry))) .store ⌝ }
+    ensures { λ r. ⌜ ((wear : List ℕ) → admissionNumber (r .answer) ≡ roundNumberOf (managerOf plan areas devices ages wear) (memoryOf (now (image .entry)) (now (store .entry)))) ⌝ }
+    ensures { λ r. ⌜ ((wear : List ℕ) → managerOf plan (r .areas) (r .devices) ages (addWorn (r .worn) 4 wear) ≡ afterRound (managerOf plan areas devices ages wear) answers (memoryOf (now (image .entry)) (now (store .entry)))) ⌝ }
+    ensures { λ _. ⌜ ((wear : List ℕ) → now (image .exit) ≡ memoryAfterRound (managerOf plan areas devices ages wear) answers (memoryOf (now (image .entry)) (now (store .entry))) .image) ⌝ }
+    ensures { λ _. ⌜ ((wear : List ℕ) → now (store .exit) ≡ memoryAfterRound (managerOf plan areas devices ages wear) answers (memoryOf (now (image .entry)) (now (store .entry))) .store) ⌝ }
 {
     let asked = round_admission(plan, areas, devices, image, store);
     let answer = asked.answer;
@@ -130,29 +131,19 @@ pub fn round_change(
         Admission::Refused(_) => RoundChange {
             areas,
             devices,
-            wear,
+            worn: [Worn::none(); 4],
             answer,
         },
         Admission::Accepted => {
             let dues = asked.dues;
-            let next = run_round(
-                plan,
-                answers,
-                areas,
-                devices,
-                ages,
-                dues,
-                wear,
-                image,
-                store,
-            );
+            let next = run_round(plan, answers, areas, devices, ages, dues, image, store);
             let areas = next.areas;
             let devices = next.devices;
-            let wear = next.wear;
+            let worn = next.worn;
             RoundChange {
                 areas,
                 devices,
-                wear,
+                worn,
                 answer,
             }
         }

@@ -43,6 +43,7 @@ use state::Job;
 use state::JobInfo;
 use state::MemoryInfo;
 use state::WearInfo;
+use wear::add_worn;
 
 // What the plan fixes, and what moves. An area's age is the number of other areas that had a job accepted since its own
 // latest one: among equal priorities the older is above.
@@ -462,15 +463,14 @@ impl Manager {
         let areas = self.areas;
         let devices = self.devices;
         let ages = self.ages;
-        let wear = self.wear;
-        let change = round_change(self.plan, areas, devices, ages, wear, answers, image, store);
+        let change = round_change(self.plan, areas, devices, ages, answers, image, store);
         let answer = change.answer;
         let areas = change.areas;
         let devices = change.devices;
-        let wear = change.wear;
+        let worn = change.worn;
         self.areas = areas;
         self.devices = devices;
-        self.wear = wear;
+        add_worn(&mut self.wear, worn);
         Answered {
             answer,
             manager: self,

@@ -1,18 +1,20 @@
 // A whole round on what moves in a manager.
+ghost use Prim.Native.Nat.{ℕ};
 ghost use mathlib.Core.Bool.{true};
+ghost use mathlib.Core.List.{List};
 ghost use mathlib.Core.Path.{_≡_};
 ghost use Rattle.machine.specs.laws.Dues.{Due};
 ghost use Rattle.devices.specs.Arrays.{jobIn};
 ghost use Rattle.machine.specs.Sound.{isSound};
 ghost use Rattle.rules.specs.Admission.{imageFits, storeReaches};
 ghost use Rattle.rules.specs.Layout.{layoutAt};
-ghost use Rattle.close.specs.Close.{areasAfter, devicesAfter, wearOf, halvesOf};
+ghost use Rattle.close.specs.Close.{areasAfter, devicesAfter, wearAfterRound, halvesOf};
 ghost use Rattle.rounds.specs.laws.NeedLaws.{needsOf};
 ghost use Rattle.effects.specs.Effects.{memoryOf};
 ghost use Rattle.state.specs.Ages.{ageIn};
-use answers::erased_bytes;
+ghost use Rattle.wear.specs.Wear.{addWorn};
 use answers::take_answer;
-use answers::wear_place;
+use answers::worn_by;
 use close::closed_area;
 use devices::state_on;
 use machine::soundness::runner;
@@ -25,14 +27,13 @@ use plan::records::Plan;
 use segment::Segment;
 use state::Area;
 use state::Device;
-use wear::sectors_in;
-use wear::worn_to;
+use wear::Worn;
 
-// What moves in a manager.
+// What a round makes of areas and devices, and what each device's answer wears. The sums themselves do not go through it: what is handed on is copied.
 pub struct Arrays {
     pub areas: [Area; 8],
     pub devices: [Device; 4],
-    pub wear: [u32; 32],
+    pub worn: [Worn; 4],
 }
 
 // The devices that the pending jobs need: those of their due segments.
@@ -58,14 +59,13 @@ pub fn run_round(
     mut devices: [Device; 4],
     ages: [u8; 8],
     mut dues: [Segment; 8],
-    mut wear: [u32; 32],
     image: &mut [u8],
     store: &mut [u8],
 ) -> Arrays
     requires { ⌜ (isSound plan areas devices ≡ true) × (imageFits plan (now image) ≡ true) × (storeReaches plan (now store) ≡ true) × Due plan dues (jobIn areas) ⌝ }
     ensures { λ r. ⌜ r .areas ≡ areasAfter (layoutAt plan (ageIn ages)) areas (halvesOf plan areas devices ages answers (memoryOf (now (image .entry)) (now (store .entry))) .core) ⌝ }
     ensures { λ r. ⌜ r .devices ≡ devicesAfter (halvesOf plan areas devices ages answers (memoryOf (now (image .entry)) (now (store .entry))) .core) ⌝ }
-    ensures { λ r. ⌜ r .wear ≡ wearOf plan areas devices answers (memoryOf (now (image .entry)) (now (store .entry))) wear ⌝ }
+    ensures { λ r. ⌜ ((wear : List ℕ) → addWorn (r .worn) 4 wear ≡ wearAfterRound plan areas devices answers (memoryOf (now (image .entry)) (now (store .entry))) wear) ⌝ }
     ensures { λ _. ⌜ now (image .exit) ≡ halvesOf plan areas devices ages answers (memoryOf (now (image .entry)) (now (store .entry))) .memory .image ⌝ }
     ensures { λ _. ⌜ now (store .exit) ≡ halvesOf plan areas devices ages answers (memoryOf (now (image .entry)) (now (store .entry))) .memory .store ⌝ }
 {
@@ -75,20 +75,14 @@ pub fn run_round(
     let records = plan.areas;
     let device_records = plan.devices;
     // the wear first: what the answers finish is told by the state before them
+    let mut worn = [Worn::none(); 4];
     let mut k = 0;
     while k < plan.device_count {
         let device = devices[k];
         let state = device.state;
         let area = runner(state);
         let entry = areas[area];
-        let due = dues[area];
-        let length = erased_bytes(state, answers[k], entry.job, due.length);
-        if 0 < length {
-            let place = wear_place(due);
-            let sub_area = sub_areas[place];
-            let sectors = sectors_in(length, sub_area.erase.unit);
-            wear[place] = worn_to(wear[place], sectors);
-        }
+        worn[k] = worn_by(state, answers[k], entry.job, dues[area]);
         k += 1;
     }
     let mut d = 0;
@@ -143,6 +137,6 @@ pub fn run_round(
     Arrays {
         areas,
         devices,
-        wear,
+        worn,
     }
 }

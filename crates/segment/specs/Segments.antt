@@ -74,15 +74,16 @@ segmentLength NoJob s p n = n
 abbrev pub segmentIn : JobType → ℕ → SubAreaRecord → ℕ → ℕ → Segment
 segmentIn k i s y r =
     record {
-      «sub_area» = i;
-      device = s .device;
       start = record { 0 = s .start + y };
       length = segmentLength k s (s .start + y) (min r (sizeOf s - y));
+      device = s .device;
       retries = retriesOf k s;
+      «sub_area» = i;
+      sector = s .erase .unit;
     }
 
 abbrev pub noSegment : Segment
-noSegment = record { «sub_area» = 0; device = 0; start = record { 0 = 0 }; length = 0; retries = 0 }
+noSegment = record { start = record { 0 = 0 }; length = 0; device = 0; retries = 0; «sub_area» = 0; sector = 0 }
 
 abbrev pub segmentOf : JobType → List SubAreaRecord → ℕ → Found → Segment
 segmentOf k l r Outside = noSegment

@@ -35,13 +35,15 @@ struct Seek {
     at: u64,
 }
 
-// A part of a job for one driver request: in one sub-area, with the retries that it may take.
+// A part of a job for one driver request: in one sub-area, whose sector it names, with the retries that it may take. The wide fields stand first: a round
+// moves its segments in whole words then, and they have no gaps.
 pub struct Segment {
-    pub sub_area: u8,
-    pub device: u8,
     pub start: MemAddress,
     pub length: u64,
+    pub device: u8,
     pub retries: u8,
+    pub sub_area: u8,
+    pub sector: u32,
 }
 
 impl Seek {
@@ -269,11 +271,12 @@ fn segment_in(
     let length = segment_length(kind, sub_area, start.0, n);
     let retries = retries_of(kind, sub_area);
     Segment {
-        sub_area: number,
-        device: sub_area.device,
         start,
         length,
+        device: sub_area.device,
         retries,
+        sub_area: number,
+        sector: sub_area.erase.unit,
     }
 }
 
@@ -281,11 +284,12 @@ pub fn no_segment() -> Segment
     ensures { λ r. ⌜ r ≡ noSegment ⌝ }
 {
     Segment {
-        sub_area: 0,
-        device: 0,
         start: MemAddress(0),
         length: 0,
+        device: 0,
         retries: 0,
+        sub_area: 0,
+        sector: 0,
     }
 }
 

@@ -15,6 +15,7 @@ use manager::Manager;
 use manager::in_place::round_change;
 use manager::info_of;
 use texts::question_line;
+use wear::add_worn;
 
 // The next manager, how much of the input was used, and how many bytes were written.
 pub struct Progress {
@@ -119,11 +120,12 @@ pub fn play_lines(
                 fourth,
             } => {
                 let answers = [first, second, third, fourth];
-                let change = round_change(plan, areas, devices, ages, wear, answers, image, store);
+                let change = round_change(plan, areas, devices, ages, answers, image, store);
                 let answer = change.answer;
                 areas = change.areas;
                 devices = change.devices;
-                wear = change.wear;
+                let worn = change.worn;
+                add_worn(&mut wear, worn);
                 end = print_round(out, end, answer, plan, areas, devices);
                 continue;
             }

@@ -1,7 +1,10 @@
 -- document 02, 05: wear in numbers
-use Prim.Native.Nat.{ℕ, _+_, _*_, _/_, _%_, _≤_, min}
-use lib.Dec.{eqb}
+use Prim.Native.Nat.{ℕ, zero, suc, _+_, _*_, _/_, _%_, _≤_, min}
+use mathlib.Core.List.{List}
+use lib.Dec.{eqb, ltb}
+use lib.ListN.{getD, set}
 use Rattle.arith.specs.Cases.{pick}
+use Rattle.wear.specs.declared.Worn.{Worn}
 
 -- "Each done erase adds the number of sectors in its piece": of a segment of this length. A sector of no bytes is in none: n / 0 is 0.
 unfoldable pub sectorsIn : ℕ → ℕ → ℕ
@@ -13,6 +16,19 @@ mostWear = 4294967295
 
 unfoldable pub wornTo : ℕ → ℕ → ℕ
 wornTo sum sectors = min (sum + sectors) mostWear
+
+-- what an answer that wears nothing wears: the manager has 32 sums, and none of them is meant
+abbrev pub noWorn : Worn
+noWorn = record { «sub_area» = 32; sectors = 0 }
+
+-- the sums with what one answer wears
+abbrev pub addOne : Worn → List ℕ → List ℕ
+addOne w sums = pick (ltb (w .«sub_area») 32) (set sums (w .«sub_area») (wornTo (getD sums (w .«sub_area») 0) (w .sectors))) sums
+
+-- with what the answers of the devices below n wear
+unfoldable pub addWorn : List Worn → ℕ → List ℕ → List ℕ
+addWorn worn zero sums = sums
+addWorn worn (suc n) sums = addOne (getD worn n (record { «sub_area» = 0; sectors = 0 })) (addWorn worn n sums)
 
 -- "rounded up to a whole millionth"
 unfoldable pub roundedUp : ℕ → ℕ → ℕ

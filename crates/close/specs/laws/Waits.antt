@@ -30,7 +30,7 @@ needsLayout records ages count holders needs =
       limit = λ d. 0;
       suspends = λ d. deviceOf holders d .suspends;
       outranks = ranksAbove (λ a. areaOf records a .priority) (ageIn ages);
-      segment = λ a t x. record { «sub_area» = 0; device = getD needs a 0; start = noSegment .start; length = 0; retries = 0 };
+      segment = λ a t x. record { start = noSegment .start; length = 0; device = getD needs a 0; retries = 0; «sub_area» = 0; sector = 0 };
     }
 
 abbrev pub waitIs : Wait → Machine.Wait

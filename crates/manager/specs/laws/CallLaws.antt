@@ -11,7 +11,7 @@ use mathlib.Core.Path.{_≡_, sym, ap, _∙_}
 use native.Mathlib.Omega.{arith}
 use borrow.Author.Tests.{ltb-true, eq-eqb}
 use lib.Dec.{eqb}
-use lib.ListN.{length}
+use lib.ListN.{length, replicate}
 use Rattle.arith.specs.FirstNo.{firstNo, none-elim}
 use Rattle.arith.specs.Parts.{upd-same}
 use Rattle.memory.specs.Numbers.{jobTypeNumber, statusNumber}
@@ -22,7 +22,7 @@ use Rattle.questions.specs.laws.QuestionLaws.{devicesAlone}
 use Rattle.devices.specs.Arrays.{jobIn, deviceIn}
 use Rattle.machine.specs.Sound.{isSound}
 use Rattle.machine.specs.laws.SoundCases.{sound-few}
-use Rattle.close.specs.Close.{waitsIn, areasAfter, devicesAfter, wearOf, halvesOf}
+use Rattle.close.specs.Close.{waitsIn, areasAfter, devicesAfter, wearAfterRound, halvesOf}
 use Rattle.rules.specs.Admission.{isKnown, rangeDevice, releaseQuestions, infoQuestions, memoryInfoQuestions, imageFits, storeReaches, roundNumber}
 use Rattle.rules.specs.Layout.{layoutOf}
 use Rattle.rules.specs.Machine.{doing, cancel, release}
@@ -32,6 +32,8 @@ use Rattle.state.specs.declared.DeviceState.the-variants.{Free}
 use Rattle.state.specs.declared.Job.{Job}
 use Rattle.state.specs.declared.JobInfo.{JobInfo}
 use Rattle.manager.specs.Calls.{coreOf, rankedOf, soundNumber, withArea, withDevice, jobNumberOf, afterJob, releaseNumberOf, afterRelease, cancelNumberOf, afterCancel, infoNumberOf, statusOf, resultOf, processedOf, noJobInfo, infoOf, jobTypeOf, memoryInfoNumberOf, memoryOfArea, wearOfArea, roundNumberOf, afterRound, memoryAfterRound}
+use Rattle.wear.specs.Wear.{noWorn, addWorn}
+use Rattle.wear.specs.declared.Worn.{Worn}
 use Rattle.manager.specs.declared.Manager.{Manager}
 
 -- the number n of each call, with the answer to question 9
@@ -169,9 +171,11 @@ module _ (m : Manager) (answers : List DeviceAnswer) (lent : Memory) where
       (λ s. let yes = none-elim 18 _ (omega arith) (rw s at e) in (s, yes 0 (omega arith), yes 1 (omega arith)))
       (λ s. absurd (omega (arith, rw s at e)))
 
-  pub round-refused : eqb (roundNumberOf m lent) 0 ≡ false → m ≡ afterRound m answers lent
-  unfolding afterRound
-  round-refused e = rw e
+  -- nothing is worn then
+  pub round-refused : eqb (roundNumberOf m lent) 0 ≡ false → (worn : Worn) → worn ≡ noWorn →
+      record { plan = m .plan; areas = m .areas; devices = m .devices; ages = m .ages; wear = addWorn (replicate 4 worn) 4 (m .wear) } ≡ afterRound m answers lent
+  unfolding afterRound addWorn
+  round-refused e worn none = rw (none, e)
 
   pub round-memory-refused : eqb (roundNumberOf m lent) 0 ≡ false → lent ≡ memoryAfterRound m answers lent
   unfolding memoryAfterRound
@@ -181,7 +185,7 @@ module _ (m : Manager) (answers : List DeviceAnswer) (lent : Memory) where
     pub round-accepted : (areas : List Area) (devices : List Device) (wear : List ℕ) →
         areas ≡ areasAfter (rankedOf m) (m .areas) (halvesOf (m .plan) (m .areas) (m .devices) (m .ages) answers lent .core) →
         devices ≡ devicesAfter (halvesOf (m .plan) (m .areas) (m .devices) (m .ages) answers lent .core) →
-        wear ≡ wearOf (m .plan) (m .areas) (m .devices) answers lent (m .wear) →
+        wear ≡ wearAfterRound (m .plan) (m .areas) (m .devices) answers lent (m .wear) →
         record { plan = m .plan; areas = areas; devices = devices; ages = m .ages; wear = wear } ≡ afterRound m answers lent
     unfolding afterRound
     round-accepted areas devices wear f g h =

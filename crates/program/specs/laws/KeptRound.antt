@@ -7,7 +7,7 @@ use native.Mathlib.Omega.{arith}
 use Rattle.manager.specs.Calls.{coreOf, rankedOf}
 use Rattle.manager.specs.declared.Manager.{Manager}
 use Rattle.memory.specs.declared.DeviceAnswer.{DeviceAnswer}
-use Rattle.close.specs.Close.{mostWaits, stick, counted, closed, areasAfter, devicesAfter, lentTo, wearOf, halvesOf}
+use Rattle.close.specs.Close.{mostWaits, stick, counted, closed, areasAfter, devicesAfter, lentTo, wearAfterRound, halvesOf}
 use Rattle.rules.specs.History.{Tally, count, close, History, lent, roundOf}
 use Rattle.rules.specs.Machine.{Wait, own, above, below, locked, none, isPending, waitOf}
 use Rattle.rules.specs.Memory.{Memory}
@@ -71,10 +71,10 @@ module _ (m : Manager) (h : History) (S : Stands (m .plan) m (beside m h)) (r : 
         areas = areasAfter (rankedOf m) (m .areas) (half .core);
         devices = devicesAfter (half .core);
         ages = m .ages;
-        wear = wearOf (m .plan) (m .areas) (m .devices) answers given (m .wear);
+        wear = wearAfterRound (m .plan) (m .areas) (m .devices) answers given (m .wear);
       })
       (roundOf (m .plan) answers given (beside m h))
-  unfolding roundOf half wearOf erased
+  unfolding roundOf half wearAfterRound erased
   half-kept =
       record {
         plan = refl;
@@ -103,7 +103,7 @@ module _ (m : Manager) (h : History) (S : Stands (m .plan) m (beside m h)) (r : 
         areas = areasAfter (rankedOf m) (m .areas) e;
         devices = devicesAfter e;
         ages = m .ages;
-        wear = wearOf (m .plan) (m .areas) (m .devices) answers given (m .wear);
+        wear = wearAfterRound (m .plan) (m .areas) (m .devices) answers given (m .wear);
       })
       (roundOf (m .plan) answers given (beside m h))
   unfolding half

@@ -1,45 +1,44 @@
 -- The wear of a round. What the answers finish is told by the state before them: an erase that is done is finished, and a request is as it was until its
--- device's turn. So the sums can be set before the first half.
-use Prim.Native.Nat.{ℕ, zero, suc, _+_, _≤_, _<_}
+-- device's turn. So what they wear can be found before the first half.
+use Prim.Native.Nat.{ℕ, zero, suc, _≤_, _<_}
 use mathlib.Core.Bool.{Bool, true, false}
 use mathlib.Core.List.{List, [], _∷_}
+use mathlib.Core.Logic.{⊎-elim}
 use mathlib.Core.Path.{_≡_, refl, sym, ap, _∙_}
 use native.Mathlib.Nat.{zero-div}
-use native.Mathlib.Numerals.{add-one}
 use native.Mathlib.Omega.{arith}
-use borrow.Author.Tests.{lt-ltb, lt-leb}
-use lib.ListN.{length, getD, set}
-use lib.Seq.{set-getD, set-out, getD-set-same, getD-set-other}
-use Rattle.answers.specs.Erased.{isDone, erasedBytes, wearPlace}
-use Rattle.arith.specs.Cases.{pick, by-ltb, by-eqb}
+use borrow.Author.Tests.{lt-ltb}
+use lib.ListN.{getD}
+use Rattle.answers.specs.Worn.{isDone, wornOn}
+use Rattle.arith.specs.Cases.{pick, by-eqb}
 use Rattle.arith.specs.Plain.{plain}
-use Rattle.close.specs.Close.{lentTo, wearOf}
+use Rattle.arith.specs.Tables.{table, table-at, table-blank}
+use Rattle.close.specs.Close.{lentTo, wearAfterRound}
 use Rattle.devices.specs.Arrays.{jobIn, stateIn, coreIn}
 use Rattle.machine.specs.Sound.{isSound, jobRuns, segmentFits, requestSound, stateSound}
 use Rattle.machine.specs.laws.Dues.{Due, runnerOf}
+use Rattle.machine.specs.laws.SoundCases.{sound-counts}
 use Rattle.memory.specs.declared.DeviceAnswer.{DeviceAnswer}
 use Rattle.memory.specs.declared.DeviceAnswer.the-variants as Answers
 use Rattle.memory.specs.declared.JobType.{JobType}
 use Rattle.memory.specs.declared.JobType.the-variants.{NoJob, Write, Read, Compare, Erase, BlankCheck, Lock}
-use Rattle.plan.specs.Questions.{subAreaOf}
+use Rattle.memory.specs.declared.Task.{Task}
 use Rattle.plan.specs.declared.records.Plan.{Plan}
-use Rattle.plan.specs.declared.records.SubAreaRecord.{SubAreaRecord}
 use Rattle.rules.specs.Layout.{layoutOf}
 use Rattle.rules.specs.Machine.{Core, Verdict, goesOn, finished, differs, failed, due}
 use Rattle.rules.specs.Memory.{Memory, verdictOf}
 use Rattle.rules.specs.Round.{Half, answerFor, verdictOn, verdictIn, takeAll, addErase, erasesOn, erasesTo}
-use Rattle.rules.specs.Wear.{wearAfter}
+use Rattle.rules.specs.Wear.{sectorsOf, wearAfter}
 use Rattle.segment.specs.Segments.{isErase, noSegment, segmentAt}
 use Rattle.segment.specs.declared.Segment.{Segment}
-use Rattle.segment.specs.laws.Found.{sub-area-room}
-use Rattle.state.specs.Fresh.{freshArea}
+use Rattle.segment.specs.laws.Found.{sub-area-room, sector-kept}
 use Rattle.state.specs.declared.Area.{Area}
 use Rattle.state.specs.declared.Device.{Device}
 use Rattle.state.specs.declared.DeviceState.{DeviceState}
 use Rattle.state.specs.declared.DeviceState.the-variants.{Free, Runs, LockedFor}
 use Rattle.state.specs.declared.Job.{Job}
-use Rattle.wear.specs.Wear.{mostWear, sectorsIn, wornTo}
-use Rattle.wear.specs.laws.WearLaws.{worn-none}
+use Rattle.wear.specs.Wear.{sectorsIn, noWorn, addOne, addWorn}
+use Rattle.wear.specs.declared.Worn.{Worn}
 use Rattle.rounds.specs.laws.AnswerLaws.{all-sound, later-device, later-job}
 use Rattle.rounds.specs.laws.Halves.{both, bare, take-bare}
 
@@ -97,87 +96,82 @@ module _ (p : Plan) (answers : List DeviceAnswer) (h : Half)
       ∙ ap (earlyOn p (takeAll p answers n h .core .devices n .state) (answerFor answers n) (h .core .jobs)) (early-is n (omega arith))
       ∙ early-turn n (omega arith) (erasesTo p answers n h) (takeAll p answers n h .core .devices n .state) same
 
--- one device more
-pub early-more : (p : Plan) (answers : List DeviceAnswer) (n : ℕ) (c : Core) →
-    earlyOn p (c .devices n .state) (answerFor answers n) (c .jobs) (early p answers n c) ≡ early p answers (n + 1) c
-unfolding early
-early-more p answers n c = rw add-one
-
--- no sectors leave the sums as they are
-wear-kept : (w : List ℕ) (i : ℕ) → getD w i 0 ≤ mostWear → set w i (wornTo (getD w i 0) 0) ≡ w
-wear-kept w i h = ap (set w i) (worn-none (getD w i 0) h) ∙ set-getD w i 0
-
-no-sectors : (unit : ℕ) → sectorsIn 0 unit ≡ 0
+-- the sectors that a segment names are those of its sub-area
+sectors-are : (p : Plan) (a : ℕ) (t : Task) (x : ℕ) → sectorsIn (segmentAt p a t x .length) (segmentAt p a t x .sector) ≡ sectorsOf p (segmentAt p a t x)
 unfolding sectorsIn
-no-sectors unit = zero-div unit
+sectors-are p a t x = ⊎-elim (λ none. rw none (zero-div _ ∙ sym (zero-div _))) (λ same. ap (sectorsIn (segmentAt p a t x .length)) same) (sector-kept p a t x)
 
--- the sums of which one has taken so many bytes of a sub-area
-abbrev pub wornOne : Plan → List ℕ → ℕ → ℕ → List ℕ
-wornOne p w i n = set w i (wornTo (getD w i 0) (sectorsIn n (subAreaOf (p .«sub_areas») i .erase .unit)))
+-- what the answer of device d wears, as the code finds it: by job and due segment of the area that the device runs
+abbrev pub wornFor : List Area → List Device → List Segment → List DeviceAnswer → ℕ → Worn
+wornFor areas devices dues answers d =
+    wornOn (stateIn devices d) (answerFor answers d) (jobIn areas (runnerOf (stateIn devices d)) .task .kind) (getD dues (runnerOf (stateIn devices d)) noSegment)
 
-wear-none : (p : Plan) (w : List ℕ) (i : ℕ) → getD w i 0 ≤ mostWear → wornOne p w i 0 ≡ w
-wear-none p w i h = ap (λ n. set w i (wornTo (getD w i 0) n)) (no-sectors _) ∙ wear-kept w i h
-
--- what the code does: it sets one sum where bytes were erased, and leaves all where none were
-pub worn-set : (p : Plan) (l : List SubAreaRecord) → l ≡ p .«sub_areas» → (w new : List ℕ) (i j n sectors r : ℕ) → i ≡ j →
-    sectors ≡ sectorsIn n (subAreaOf l i .erase .unit) → r ≡ wornTo (getD w i 0) sectors → new ≡ set w i r → new ≡ wornOne p w j n
-worn-set p l e w new i j n sectors r f g h k = k ∙ rw (h, g, e, f)
-
-pub worn-left : (p : Plan) (w new : List ℕ) (i n : ℕ) → getD w i 0 ≤ mostWear → n ≤ 0 → new ≡ w → new ≡ wornOne p w i n
-worn-left p w new i n h l k = let none : n ≡ 0 = omega arith in k ∙ sym (rw none (wear-none p w i h))
-
--- each sum is within the limit, and stays so
-abbrev pub Within : List ℕ → Type 0
-Within w = (i : ℕ) → getD w i 0 ≤ mostWear
-
-pub within-set : (w : List ℕ) (i n : ℕ) → Within w → Within (set w i (wornTo (getD w i 0) n))
-unfolding wornTo
-within-set w i n h j =
-    by-eqb j i
-    (λ _ e. by-ltb i (length w) (λ _ l. rw (e, getD-set-same w i _ 0 l) (omega arith)) (λ _ l. rw (set-out w i _ l) (h j)))
-    (λ _ e. rw (getD-set-other w i j _ 0 e) (h j))
-
--- one request: the sums with what it erased are those with its segment put before the erases
-module _ (p : Plan) (es : List Segment) (start w : List ℕ) (was : w ≡ wearAfter p es start) (within : Within w) where
-  step : (x : DeviceAnswer) (k : JobType) (s : Segment) → wearPlace (s .«sub_area») ≡ s .«sub_area» → (t u : Bool) → isDone x ≡ t → isErase k ≡ u →
-      wornOne p w (wearPlace (s .«sub_area»)) (pick (isDone x) (pick (isErase k) (s .length) 0) 0) ≡ wearAfter p (addDone x k s es) start
+-- one request: the sums with what it wears are those with its segment put before the erases
+module _ (p : Plan) (room : p .«sub_area_count» ≤ 32) (es : List Segment) (start : List ℕ) where
+  step : (x : DeviceAnswer) (b q : ℕ) (j : Job) → let s = segmentAt p b (j .task) (j .processed) in
+      addOne (wornOn (Runs b q) x (j .task .kind) s) (wearAfter p es start) ≡ wearAfter p (addDone x (j .task .kind) s es) start
   unfolding wearAfter
-  step x k s place true true e f = rw (e, f, place, was)
-  step x k s place true false e f = rw (e, f) (wear-none p w _ (within _) ∙ was)
-  step x k s place false u e f = rw e (wear-none p w _ (within _) ∙ was)
+  step x b q j = go (isDone x) (isErase (j .task .kind)) refl refl
+    where
+      s : Segment
+      s = segmentAt p b (j .task) (j .processed)
+
+      go : (t u : Bool) → isDone x ≡ t → isErase (j .task .kind) ≡ u →
+          addOne (wornOn (Runs b q) x (j .task .kind) s) (wearAfter p es start) ≡ wearAfter p (addDone x (j .task .kind) s es) start
+      go true true e f = rw (e, f, lt-ltb (s .«sub_area») 32 (sub-area-room p room b (j .task) (j .processed)), sectors-are p b (j .task) (j .processed))
+      go true false e f = rw (e, f)
+      go false u e f = rw e
 
   -- one device
-  module _ (few : p .«area_count» ≤ 8) (room : p .«sub_area_count» ≤ 32) (areas : List Area) (devices : List Device) (dues : List Segment) (found : Due p dues (jobIn areas))
-      (d : ℕ) (sound : stateSound p d (jobIn areas) (stateIn devices d) ≡ true) (y : DeviceAnswer) where
-    turn : (x : DeviceState) → stateIn devices d ≡ x → (a : ℕ) → a ≡ runnerOf x → (n : ℕ) →
-        n ≡ erasedBytes x y (getD areas a freshArea .job .task .kind) (getD dues a noSegment .length) →
-        wornOne p w (wearPlace (getD dues a noSegment .«sub_area»)) n ≡ wearAfter p (earlyOn p x y (jobIn areas) es) start
+  module _ (few : p .«area_count» ≤ 8) (areas : List Area) (devices : List Device) (dues : List Segment) (found : Due p dues (jobIn areas)) (answers : List DeviceAnswer)
+      (d : ℕ) (sound : stateSound p d (jobIn areas) (stateIn devices d) ≡ true) where
+    turn : (x : DeviceState) → stateIn devices d ≡ x →
+        addOne (wornOn x (answerFor answers d) (jobIn areas (runnerOf x) .task .kind) (getD dues (runnerOf x) noSegment)) (wearAfter p es start)
+        ≡ wearAfter p (earlyOn p x (answerFor answers d) (jobIn areas) es) start
     unfolding earlyOn requestSound jobRuns segmentFits layoutOf
-    turn Free e a f n = λ g. rw g (wear-none p w _ (within _) ∙ was)
-    turn (LockedFor b) e a f n = λ g. rw g (wear-none p w _ (within _) ∙ was)
-    turn (Runs b q) e a f n =
+    turn Free e = refl
+    turn (LockedFor b) e = refl
+    turn (Runs b q) e =
         let request : requestSound p d b q (jobIn areas b) ≡ true = rw e at sound in
         let facts = simp plain at request in
         let known : b < 8 = omega (arith, facts .0, few) in
-        let is = found b known (facts .1 .0 .0) in
-        rw (f, lt-ltb b 8 known, is)
-        (λ g.
-        rw g
-        (step y (jobIn areas b .task .kind) (segmentAt p b (jobIn areas b .task) (jobIn areas b .processed)) (rw (lt-leb 32 _ (sub-area-room p room b (jobIn areas b .task) (jobIn areas b .processed)))) _ _ refl refl))
+        rw (lt-ltb b 8 known, found b known (facts .1 .0 .0)) (step (answerFor answers d) b q (jobIn areas b))
 
-    pub wear-turn : (a : ℕ) → a ≡ runnerOf (stateIn devices d) → (n : ℕ) →
-        n ≡ erasedBytes (stateIn devices d) y (getD areas a freshArea .job .task .kind) (getD dues a noSegment .length) →
-        wornOne p w (wearPlace (getD dues a noSegment .«sub_area»)) n ≡ wearAfter p (earlyOn p (stateIn devices d) y (jobIn areas) es) start
-    wear-turn a f n g = turn (stateIn devices d) refl a f n g
+    wear-turn : addOne (wornFor areas devices dues answers d) (wearAfter p es start)
+        ≡ wearAfter p (earlyOn p (stateIn devices d) (answerFor answers d) (jobIn areas) es) start
+    wear-turn = turn (stateIn devices d) refl
 
--- all devices: the sums are those of the round
-pub wear-all : (p : Plan) (areas : List Area) (devices : List Device) → isSound p areas devices ≡ true → (answers : List DeviceAnswer) (m : Memory) (n : ℕ) →
-    n ≡ p .«device_count» → (start w : List ℕ) → w ≡ wearAfter p (early p answers n (coreIn areas devices)) start → w ≡ wearOf p areas devices answers m start
-unfolding wearOf
-wear-all p areas devices sound answers m n all start w e =
-    e
-    ∙ ap (λ k. wearAfter p (early p answers k (coreIn areas devices)) start) all
-    ∙ ap (λ es. wearAfter p es start) (early-is p answers (lentTo areas devices m) (all-sound p areas devices sound) (p .«device_count») (omega arith))
+-- all devices: what the table of what they wear adds is the wear of the round
+module _ (p : Plan) (areas : List Area) (devices : List Device) (sound : isSound p areas devices ≡ true) (answers : List DeviceAnswer) (m : Memory) (dues : List Segment)
+    (found : Due p dues (jobIn areas)) (start : List ℕ) where
+  few : (p .«device_count» ≤ 4) × (p .«area_count» ≤ 8) × (p .«sub_area_count» ≤ 32)
+  few = sound-counts p areas devices sound
+
+  abbrev worn : List Worn
+  worn = table 4 (wornFor areas devices dues answers) noWorn (p .«device_count»)
+
+  worn-to : (n : ℕ) → n ≤ p .«device_count» → addWorn worn n start ≡ wearAfter p (early p answers n (coreIn areas devices)) start
+  unfolding addWorn early earlyOn wearAfter
+  worn-to zero l = refl
+  worn-to (suc n) l =
+      rw (table-at 4 (wornFor areas devices dues answers) noWorn (p .«device_count») n (record { «sub_area» = 0; sectors = 0 }) (omega arith) (few .0), worn-to n (omega arith))
+      (wear-turn p (few .2) (early p answers n (coreIn areas devices)) start (few .1) areas devices dues found answers n (all-sound p areas devices sound n (omega arith)))
+
+  -- the others wear nothing
+  worn-past : (n : ℕ) → p .«device_count» ≤ n → n ≤ 4 → addWorn worn n start ≡ addWorn worn (p .«device_count») start
+  unfolding addWorn
+  worn-past zero l h = let none : 0 ≡ p .«device_count» = omega arith in ap (λ k. addWorn worn k start) none
+  worn-past (suc n) l h =
+      by-eqb (p .«device_count») (suc n)
+      (λ _ e. ap (λ k. addWorn worn k start) (sym e))
+      (λ _ e. rw (table-blank 4 (wornFor areas devices dues answers) noWorn (p .«device_count») n (record { «sub_area» = 0; sectors = 0 }) (omega arith) (omega arith)) (worn-past n (omega arith) (omega arith)))
+
+  pub wear-all : addWorn worn 4 start ≡ wearAfterRound p areas devices answers m start
+  unfolding wearAfterRound
+  wear-all =
+      worn-past 4 (few .0) (omega arith)
+      ∙ worn-to (p .«device_count») (omega arith)
+      ∙ ap (λ es. wearAfter p es start) (early-is p answers (lentTo areas devices m) (all-sound p areas devices sound) (p .«device_count») (omega arith))
 
 -- the erases of a round are told by core and memory
 pub erases-bare : (p : Plan) (answers : List DeviceAnswer) (h : Half) (n : ℕ) → erasesTo p answers n h ≡ erasesTo p answers n (bare (both h))

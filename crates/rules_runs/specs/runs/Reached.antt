@@ -72,7 +72,7 @@ behindErases =
 
 -- a sector of area 2 in sub-area i on device d at physical address x
 abbrev sectorOn : ℕ → ℕ → ℕ → ℕ → Segment
-sectorOn i d x retries = record { «sub_area» = i; device = d; start = record { 0 = x }; length = 4; retries = retries }
+sectorOn i d x retries = record { start = record { 0 = x }; length = 4; device = d; retries = retries; «sub_area» = i; sector = 4 }
 
 abbrev loaded : ℕ → Plan
 loaded second = Records.planOf (planW second)

@@ -1,6 +1,7 @@
 -- What the code makes of what the lookup found.
 use Prim.Native.Nat.{ℕ, zero, suc, _+_, _-_, _≤_, _<_, min}
 use mathlib.Core.List.{List}
+use mathlib.Core.Logic.{_⊎_, inl, inr}
 use mathlib.Core.Path.{_≡_, refl, ap}
 use lib.Dec.{ltb}
 use native.Mathlib.Omega.{arith}
@@ -33,11 +34,11 @@ segmentIf k s r (At i y m) = segmentIn k i s y r
 
 -- at the address of the offset
 pub segment-there : (k : JobType) (i : ℕ) (s : SubAreaRecord) (y r : ℕ) (m : MemAddress) → m .0 ≡ s .start + y →
-    record { «sub_area» = i; device = s .device; start = m; length = segmentLength k s (m .0) (min r (sizeOf s - y)); retries = retriesOf k s }
+    record { start = m; length = segmentLength k s (m .0) (min r (sizeOf s - y)); device = s .device; retries = retriesOf k s; «sub_area» = i; sector = s .erase .unit }
     ≡ segmentIn k i s y r
 segment-there k i s y r m e =
     ap
-    (λ x. record { «sub_area» = i; device = s .device; start = record { 0 = x }; length = segmentLength k s x (min r (sizeOf s - y)); retries = retriesOf k s })
+    (λ x. record { start = record { 0 = x }; length = segmentLength k s x (min r (sizeOf s - y)); device = s .device; retries = retriesOf k s; «sub_area» = i; sector = s .erase .unit })
     e
 
 -- the segment that is due once x bytes are processed
@@ -102,3 +103,14 @@ sub-area-room p few a t x = room (located (p .«sub_areas») (p .«sub_area_coun
         segmentOf (t .kind) (p .«sub_areas») (t .length - x) f .«sub_area» < 32
     room Outside e = omega arith
     room (At i y m) e = index-within (p .«sub_areas») a (p .«sub_area_count») (areaOf (p .areas) a .start .0) (t .address .0 + x) (At i y m) e few
+
+-- the sector of a segment is that of its sub-area; one that lies in none has no bytes
+pub sector-kept : (p : Plan) (a : ℕ) (t : Task) (x : ℕ) →
+    (segmentAt p a t x .length ≡ 0) ⊎ (segmentAt p a t x .sector ≡ subAreaOf (p .«sub_areas») (segmentAt p a t x .«sub_area») .erase .unit)
+unfolding segmentAt
+sector-kept p a t x = kept (mapped p a (record { 0 = t .address .0 + x }))
+  where
+    kept : (f : Found) →
+        let s = segmentOf (t .kind) (p .«sub_areas») (t .length - x) f in (s .length ≡ 0) ⊎ (s .sector ≡ subAreaOf (p .«sub_areas») (s .«sub_area») .erase .unit)
+    kept Outside = inl refl
+    kept (At i y m) = inr refl

@@ -14,7 +14,7 @@ cast-room c = search needs
 
 returns : tie.Need-returns
 unfolding wornTo
-returns c = (omega (arith, c .before .fits .sum .fits, c .if1 .taken), omega (arith, c .before .fits .sum .fits))
+returns c = omega (arith, c .before .fits .sum .fits, c .if1 .taken)
 
 cast-result : tie.Need-cast-result
 cast-result c = search needs
@@ -24,7 +24,7 @@ add-result c = search needs
 
 returns-2 : tie.Need-returns-2
 unfolding wornTo
-returns-2 c = (omega (arith, c .before .fits .sum .fits, c .if1 .left), omega (arith, c .before .fits .sum .fits))
+returns-2 c = omega (arith, c .before .fits .sum .fits, c .if1 .left)
 
 pub worn-to-spec : {M : Type 1} → statement M
 worn-to-spec = tie.close (tie.spec sub-room cast-room returns cast-result add-result returns-2)

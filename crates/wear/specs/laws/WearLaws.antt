@@ -1,11 +1,15 @@
 -- The charge is the least number of whole millionths, and fits 64 bits; a sum that sticks is the sum without a limit, or the limit.
 use Prim.Native.Nat.{ℕ, _+_, _*_, _/_, _%_, _≤_, _<_, min}
-use mathlib.Core.Path.{_≡_}
+use mathlib.Core.List.{List}
+use mathlib.Core.Path.{_≡_, _∙_}
 use native.Mathlib.Nat.{div-le-of-le-mul, div-lt-self, zero-mod, mod-one, div-lt-iff-lt-mul, div-add-mod', lt-mul-div-succ, mul-mod-left, mul-comm}
+use native.Mathlib.Numerals.{add-one}
 use native.Mathlib.Omega.{arith}
-use borrow.Author.Tests.{ne-eqb, eq-eqb}
+use borrow.Author.Tests.{ne-eqb, eq-eqb, lt-ltb, le-ltb}
 use Rattle.arith.specs.Cases.{by-eqb}
-use Rattle.wear.specs.Wear.{mostWear, wornTo, roundedUp, chargeOf, Millionths}
+use lib.ListN.{getD, set}
+use Rattle.wear.specs.Wear.{mostWear, wornTo, addOne, addWorn, roundedUp, chargeOf, Millionths}
+use Rattle.wear.specs.declared.Worn.{Worn}
 
 module _ (n d : ℕ) (some : 1 ≤ d) where
   -- what is rounded up comes to n
@@ -51,7 +55,16 @@ pub worn-more : (true sectors : ℕ) → wornTo (min true mostWear) sectors ≡ 
 unfolding wornTo
 worn-more true sectors = omega arith
 
--- no sectors, no wear
-pub worn-none : (sum : ℕ) → sum ≤ mostWear → wornTo sum 0 ≡ sum
-unfolding wornTo
-worn-none sum h = omega arith
+-- what the code does with what one answer wears: it sets the sum that is meant, or leaves all where none is
+module _ (w : Worn) (wear sums new : List ℕ) (was : wear ≡ sums) where
+  pub add-set : w .«sub_area» < 32 → (r : ℕ) → r ≡ wornTo (getD wear (w .«sub_area») 0) (w .sectors) → new ≡ set wear (w .«sub_area») r → new ≡ addOne w sums
+  add-set l r e f = f ∙ rw (e, was, lt-ltb (w .«sub_area») 32 l)
+
+  pub add-left : 32 ≤ w .«sub_area» → new ≡ wear → new ≡ addOne w sums
+  add-left l f = f ∙ rw (was, le-ltb (w .«sub_area») 32 l)
+
+-- one device more
+pub add-more : (worn : List Worn) (n : ℕ) (sums : List ℕ) →
+    addOne (getD worn n (record { «sub_area» = 0; sectors = 0 })) (addWorn worn n sums) ≡ addWorn worn (n + 1) sums
+unfolding addWorn
+add-more worn n sums = rw add-one

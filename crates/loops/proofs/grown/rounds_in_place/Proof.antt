@@ -6,6 +6,7 @@ use Rattle.effects.specs.Effects.{memoryOf}
 use Rattle.loops.specs.Rounds.{rounds, roundTotal, rounds-more, total-more-rounds, bench-is, benchOf, benchAfter, leftTotal}
 use lib.ListN.{replicate}
 use Rattle.loops.specs.Grown.{managerIn}
+use Rattle.manager.specs.Calls.{managerOf}
 use borrow.Author.Needs.{needs}
 use Rattle.loops.proofs.grown.rounds_in_place.Statement.{statement}
 use Rattle.loops.proofs.grown.rounds_in_place.Tie as tie
@@ -13,6 +14,7 @@ use Rattle.loops.proofs.grown.rounds_in_place.Reads as reads
 use Rattle.loops.proofs.grown.rounds_in_place.Lts as lts
 use Rattle.manager.proofs.in_place.round_change.Reads as round-change-reads
 use Rattle.memory.proofs.Admission.number.Reads as number-reads
+use Rattle.wear.proofs.add_worn.Reads as add-worn-reads
 use Rattle.loops.proofs.answer_of.Reads as answer-of-reads
 use Rattle.loops.proofs.busy.Reads as busy-reads
 use Rattle.loops.proofs.grown.Grown.manager.Reads as manager-reads
@@ -51,22 +53,27 @@ cast-sum c = search needs
 add-sum : tie.Need-add-sum Inv-loop μ-loop
 add-sum c = omega (arith, c .before .before .before .before .before .before .before .before .before .before .before .before .before .loop .inv .5, c .before .before .before .before .before .before .before .before .before .before .before .before .loop-test .taken, c .before .before .before .before .before .before .before .before .before .before .before .before .before .before .before .before .before .before .before .before .fits .times, c .number .ok)
 
+add-worn-requires : tie.Need-add-worn-requires Inv-loop μ-loop
+add-worn-requires c κs = search needs
+
 add-i : tie.Need-add-i Inv-loop μ-loop
-add-i c = omega (arith, c .before .before .before .before .before .before .before .before .before .before .before .before .before .before .before .loop-test .taken, c .before .before .before .before .before .before .before .before .before .before .before .before .before .before .before .before .before .before .before .before .before .before .before .fits .times)
+add-i c = omega (arith, c .before .before .before .before .before .before .before .before .before .before .before .before .before .before .before .before .before .loop-test .taken, c .before .before .before .before .before .before .before .before .before .before .before .before .before .before .before .before .before .before .before .before .before .before .before .before .before .fits .times)
 
 loop-less : tie.Need-loop-less Inv-loop μ-loop
 loop-less c = search needs
 
 loop-again : tie.Need-loop-again Inv-loop μ-loop
 loop-again c =
-    let here = c .before .before .before .before .before .before .before .before .before .before .before .before .before .before .before .before .loop in
+    let here = c .before .before .before .before .before .before .before .before .before .before .before .before .before .before .before .before .before .before .loop in
     let inv = here .inv in
-    let done = c .before .before .before .before .before .before .before .before .round-change .ensures in (
+    let r = c .before .before .before .before .before .before .before .before .before .before .round-change in
+    let wear = here .grown .wear in
+    let worn = ap (managerOf (here .grown .plan) (r .result .areas) (r .result .devices) (here .grown .ages)) (c .add-worn .ensures) in (
       omega arith,
       omega (arith, inv .1),
       omega (arith, inv .2),
-      rw (rounds-more, ← (inv .3)) (bench-is _ _ _ _ _ (done .1 .0) (done .1 .1 .0) (done .1 .1 .1)),
-      rw (total-more-rounds, ← (inv .3), ← (inv .4)) (ap (_+_ (here .sum)) (c .before .before .before .number .ensures ∙ done .0)),
+      rw (rounds-more, ← (inv .3)) (bench-is _ _ _ _ _ (worn ∙ r .ensures .1 .0 wear) (r .ensures .1 .1 .0 wear) (r .ensures .1 .1 .1 wear)),
+      rw (total-more-rounds, ← (inv .3), ← (inv .4)) (ap (_+_ (here .sum)) (c .before .before .before .before .before .number .ensures ∙ r .ensures .0 wear)),
       omega arith,
       inv .6,
     )
@@ -115,6 +122,7 @@ rounds-in-place-spec =
     number-requires
     cast-sum
     add-sum
+    add-worn-requires
     add-i
     loop-less
     loop-again

@@ -26,6 +26,7 @@ use Rattle.session.proofs.play.print_answer.Reads as print-answer-reads
 use Rattle.session.proofs.play.print_info.Reads as print-info-reads
 use Rattle.session.proofs.play.print_round.Reads as print-round-reads
 use Rattle.texts.proofs.question_line.Reads as question-line-reads
+use Rattle.wear.proofs.add_worn.Reads as add-worn-reads
 
 abbrev Inv-loop : tie.InvT-loop
 Inv-loop input ends image₀ store₀ out₀ plan areas₀ devices₀ ages₀ wear₀ at₀ end₀ image store out areas devices ages wear at end = (at ≤ length input + 1) × (end ≤ length out) × (length image ≡ length image₀) × (length store ≡ length store₀) × (length out ≡ length out₀) × (playedLines ends (length out₀) (cutFrom 10 input at) (sessionOf (managerOf plan areas devices ages wear) image store out end (usedTo at input)) ≡ playedInput ends (length out₀) input (sessionOf (managerOf plan areas₀ devices₀ ages₀ wear₀) image₀ store₀ out₀ 0 0))
@@ -215,33 +216,37 @@ enum-known-line-3 c = search needs
 round-change-requires : tie.Need-round-change-requires Inv-loop μ-loop
 round-change-requires c κs = search needs
 
+add-worn-requires : tie.Need-add-worn-requires Inv-loop μ-loop
+add-worn-requires c κs = search needs
+
 print-round-requires : tie.Need-print-round-requires Inv-loop μ-loop
 print-round-requires c κs =
-    let l = c .before .before .before .before .before .before .before .before .before .before .before .before .before .before .before .before .before .before .before .before .before .loop in
-    let m = managerOf (c .before .before .before .before .before .before .before .before .before .before .before .before .before .before .before .before .before .before .before .before .before .before .before .before .before .before .before .before .before .before .before .args .manager .plan) (l .areas) (l .devices) (l .ages) (l .wear) in
-    let r = c .before .before .before .before .before .before .before .before .round-change .ensures in
-    (omega (arith, c .before .before .before .before .before .before .before .before .before .before .before .before .before .before .before .before .before .before .before .if1 .left), λ z. round-shows m _ (memoryOf (l .image) (l .store)) (sym (r .0) ∙ z) _ (r .1 .0))
+    let l = c .before .before .before .before .before .before .before .before .before .before .before .before .before .before .before .before .before .before .before .before .before .before .before .loop in
+    let m = managerOf (c .before .before .before .before .before .before .before .before .before .before .before .before .before .before .before .before .before .before .before .before .before .before .before .before .before .before .before .before .before .before .before .before .before .args .manager .plan) (l .areas) (l .devices) (l .ages) (l .wear) in
+    let r = c .before .before .before .before .before .before .before .before .before .before .round-change .ensures in
+    (omega (arith, c .before .before .before .before .before .before .before .before .before .before .before .before .before .before .before .before .before .before .before .before .before .if1 .left), λ z. round-shows m _ (memoryOf (l .image) (l .store)) (sym (r .0 (l .wear)) ∙ z) _ (r .1 .0 (l .wear)))
 
 loop-less-4 : tie.Need-loop-less-4 Inv-loop μ-loop
-loop-less-4 c = omega (arith, c .before .before .before .before .before .before .before .before .before .before .before .before .before .before .before .before .before .before .before .before .before .before .before .loop-test .taken, c .before .before .before .before .before .before .before .before .before .before .before .before .before .before .before .before .before .before .before .before .before .part-end .ensures .0)
+loop-less-4 c = omega (arith, c .before .before .before .before .before .before .before .before .before .before .before .before .before .before .before .before .before .before .before .before .before .before .before .before .before .loop-test .taken, c .before .before .before .before .before .before .before .before .before .before .before .before .before .before .before .before .before .before .before .before .before .before .before .part-end .ensures .0)
 
 loop-again-4 : tie.Need-loop-again-4 Inv-loop μ-loop
 loop-again-4 c =
-    let l = c .before .before .before .before .before .before .before .before .before .before .before .before .before .before .before .before .before .before .before .before .before .before .before .before .loop in
-    let a = c .before .before .before .before .before .before .before .before .before .before .before .before .before .before .before .before .before .before .before .before .before .before .before .before .before .before .before .before .before .before .before .before .before .before .args in
+    let l = c .before .before .before .before .before .before .before .before .before .before .before .before .before .before .before .before .before .before .before .before .before .before .before .before .before .before .loop in
+    let a = c .before .before .before .before .before .before .before .before .before .before .before .before .before .before .before .before .before .before .before .before .before .before .before .before .before .before .before .before .before .before .before .before .before .before .before .before .args in
     let m = managerOf (a .manager .plan) (l .areas) (l .devices) (l .ages) (l .wear) in
-    let e = c .before .before .before .before .before .before .before .before .before .before .before .before .before .before .before .before .before .before .before .before .before .part-end in
-    let more = c .before .before .before .before .before .before .before .before .before .before .before .before .before .before .before .before .before .before .before .before .before .before .before .loop-test .taken in
-    let room = c .before .before .before .before .before .before .before .before .before .before .before .before .before .before .before .before .before .before .before .before .before .before .if1 .left in
+    let e = c .before .before .before .before .before .before .before .before .before .before .before .before .before .before .before .before .before .before .before .before .before .before .before .part-end in
+    let more = c .before .before .before .before .before .before .before .before .before .before .before .before .before .before .before .before .before .before .before .before .before .before .before .before .before .loop-test .taken in
+    let room = c .before .before .before .before .before .before .before .before .before .before .before .before .before .before .before .before .before .before .before .before .before .before .before .before .if1 .left in
     let u : usedTo (l .at) (a .input .now) ≡ l .at = omega (arith, more) in
-    let yes = sym (c .before .before .before .before .before .before .before .before .before .before .before .before .before .before .before .before .before .before .before .before .is-line .ensures) ∙ not-false _ (c .before .before .before .before .before .before .before .before .before .before .before .before .before .before .before .before .before .before .before .if2 .left) in
-    let r = c .before .before .before .before .before .before .before .before .before .before .before .round-change .ensures in
+    let yes = sym (c .before .before .before .before .before .before .before .before .before .before .before .before .before .before .before .before .before .before .before .before .before .before .is-line .ensures) ∙ not-false _ (c .before .before .before .before .before .before .before .before .before .before .before .before .before .before .before .before .before .before .before .before .before .if2 .left) in
+    let r = c .before .before .before .before .before .before .before .before .before .before .before .before .before .round-change in
+    let worn = ap (managerOf (a .manager .plan) (r .result .areas) (r .result .devices) (l .ages)) (c .before .before .before .before .add-worn .ensures) in
     let p = c .before .before .print-round .ensures in
-    let d = round-done _ m (memoryOf (l .image) (l .store)) _ _ _ _ _ (memoryOf _ _) (c .before .before .before .before .before .before .before .before .before .before .before .before .before .before .before .line3 .given .1) _ (r .0) (r .1 .0) (r .1 .1 .0) (r .1 .1 .1) (p .0) (p .1) in
+    let d = round-done _ m (memoryOf (l .image) (l .store)) _ _ _ _ _ (memoryOf _ _) (c .before .before .before .before .before .before .before .before .before .before .before .before .before .before .before .before .before .line3 .given .1) _ (r .ensures .0 (l .wear)) (worn ∙ r .ensures .1 .0 (l .wear)) (r .ensures .1 .1 .0 (l .wear)) (r .ensures .1 .1 .1 (l .wear)) (p .0) (p .1) in
     let t = lines-turn (a .ends) (length (a .out .now)) m (l .image) (l .store) (l .out) (l .end) (usedTo (l .at) (a .input .now)) (l .inv .1)
     (omega (arith, room, l .inv .4)) (a .input .now) (l .at) (e .result) (e .ensures .0) (e .ensures .1) (e .ensures .2) yes u _ _ _ _
-    (c .before .before .before .before .before .before .before .before .before .before .before .before .before .before .before .before .before .line-of .ensures) d _ (l .inv .5) in
-    (omega (arith, e .ensures .1), omega (arith, t .0, t .1, room), omega (arith, c .before .before .before .before .before .before .before .before .before .before .image .given), omega (arith, c .before .before .before .before .before .before .before .before .store .given), t .1 ∙ l .inv .4, t .2)
+    (c .before .before .before .before .before .before .before .before .before .before .before .before .before .before .before .before .before .before .before .line-of .ensures) d _ (l .inv .5) in
+    (omega (arith, e .ensures .1), omega (arith, t .0, t .1, room), omega (arith, c .before .before .before .before .before .before .before .before .before .before .before .before .image .given), omega (arith, c .before .before .before .before .before .before .before .before .before .before .store .given), t .1 ∙ l .inv .4, t .2)
 
 same-length-7 : tie.Need-same-length-7 Inv-loop μ-loop
 same-length-7 c = search needs
@@ -309,6 +314,7 @@ play-lines-spec =
     loop-again-3
     enum-known-line-3
     round-change-requires
+    add-worn-requires
     print-round-requires
     loop-less-4
     loop-again-4

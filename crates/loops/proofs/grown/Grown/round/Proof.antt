@@ -1,13 +1,18 @@
-use mathlib.Core.Path.{refl}
+use mathlib.Core.Path.{refl, ap, _∙_}
+use Rattle.manager.specs.Calls.{managerOf}
 use borrow.Author.Needs.{needs}
 use Rattle.loops.proofs.grown.Grown.round.Statement.{statement}
 use Rattle.loops.proofs.grown.Grown.round.Tie as tie
 use Rattle.loops.proofs.grown.Grown.round.Reads as reads
 use Rattle.loops.proofs.grown.Grown.round.Lts as lts
 use Rattle.manager.proofs.in_place.round_change.Reads as round-change-reads
+use Rattle.wear.proofs.add_worn.Reads as add-worn-reads
 
 round-change-requires : tie.Need-round-change-requires
 round-change-requires c κs = search needs
+
+add-worn-requires : tie.Need-add-worn-requires
+add-worn-requires c κs = search needs
 
 same-length : tie.Need-same-length
 same-length c = search needs
@@ -17,8 +22,11 @@ same-length-2 c = search needs
 
 returns : tie.Need-returns
 returns c =
-    let r = c .before .before .before .before .before .before .before .round-change .ensures in
-    (r .0, ((r .1 .0, refl), (r .1 .1 .0, r .1 .1 .1)))
+    let m = c .before .before .before .before .before .before .before .before .before .before .before .before .before .before .before .before .before .before .args .t1 in
+    let r = c .before .before .before .before .before .before .before .before .before .round-change in
+    let worn = ap (managerOf (m .plan) (r .result .areas) (r .result .devices) (m .ages)) (c .add-worn .ensures) in
+    (r .ensures .0 (m .wear), ((worn ∙ r .ensures .1 .0 (m .wear), refl), (r .ensures .1 .1 .0 (m .wear), r .ensures .1 .1 .1 (m .wear))))
 
 pub round-spec : {M : Type 1} → statement M
-round-spec = tie.close (tie.spec round-change-requires same-length same-length-2 returns)
+round-spec =
+    tie.close (tie.spec round-change-requires add-worn-requires same-length same-length-2 returns)
