@@ -70,7 +70,7 @@ segmentLength BlankCheck s p n = min n (s .read .burst)
 segmentLength Lock s p n = n
 segmentLength NoJob s p n = n
 
--- the segment at offset y of sub-area i, with r bytes of the job left
+-- the segment at offset y of sub-area i, with r bytes of the job left. By sub-area and sector the wear is counted (document 02, 05).
 abbrev pub segmentIn : JobType → ℕ → SubAreaRecord → ℕ → ℕ → Segment
 segmentIn k i s y r =
     record {

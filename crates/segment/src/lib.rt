@@ -35,8 +35,8 @@ struct Seek {
     at: u64,
 }
 
-// A part of a job for one driver request: in one sub-area, whose sector it names, with the retries that it may take. The wide fields stand first: a round
-// moves its segments in whole words then, and they have no gaps.
+// A part of a job for one driver request: in one sub-area, whose sector it names, with the retries that it may take. The wide fields stand first, since a
+// round then moves its segments fastest.
 pub struct Segment {
     pub start: MemAddress,
     pub length: u64,
