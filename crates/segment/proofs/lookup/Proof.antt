@@ -96,9 +96,9 @@ kval k = LL.val S.the-type S′.the-laws k
 abbrev ty : ℕ → Ty
 ty i = localType mirs.locals i
 
--- a record has 40 bytes
-fits-place : (n i : ℕ) → Room R n → i < n → i * 40 < 2 ^ 64
-fits-place n i g l = let m : n * 40 < 2 ^ 63 = g .1 in omega (arith, m, l)
+-- a record has 36 bytes
+fits-place : (n i : ℕ) → Room R n → i < n → i * 36 < 2 ^ 64
+fits-place n i g l = let m : n * 36 < 2 ^ 63 = g .1 in omega (arith, m, l)
 
 seek-next : (l : List SubAreaRecord) (a x i : ℕ) → met (seekTo l a x i) (subAreaOf l i) i a ≡ seekTo l a x (suc i)
 unfolding seekTo
@@ -251,7 +251,7 @@ module _ {M : Type 1} (𝓤 : URA M) (H : Heap 𝓤) (A : Atoms 𝓤) (W : Given
           -- _8 = the place of sub_areas[i]
           assigns ! (bin ! (value ! 1 refl) (lit ! tt) (record { fits = fits-place n i gn small })) (here !) (store ! 2 refl (tt, record { fits = fits-place n i gn small })) $
           assigns ! (bin ! (load ! (from ! (fld ! refl (stop !))) (look-in ! 7 (sub ! 0 refl (whole !)))) (value ! 2 refl) tt) (here !) (init ! 4 refl (tt, tt)) $
-          rewrite ! 4 (λ (p : ℕ). ‵ (fat fullShare (ty 8) l₈ 0 (vptr b p))) (sym (place-is 40 o i)) refl $
+          rewrite ! 4 (λ (p : ℕ). ‵ (fat fullShare (ty 8) l₈ 0 (vptr b p))) (sym (place-is 36 o i)) refl $
           -- the borrow is opened, the record is copied to _9, and the borrow is closed
           move ! (11 ∷ 12 ∷ []) $
           looks-slice ! tt R (Is R) (shows 𝓤 H A R) (LL.vals T.the-type T′.the-laws) (LL.tells T.the-type T′.the-laws) (LL.copy T.the-type T′.the-copy 𝓤 H A W) ys b o (λ q′.
