@@ -25,7 +25,7 @@ noWorn = record { «sub_area» = 32; sectors = 0 }
 abbrev pub addOne : Worn → List ℕ → List ℕ
 addOne w sums = pick (ltb (w .«sub_area») 32) (set sums (w .«sub_area») (wornTo (getD sums (w .«sub_area») 0) (w .sectors))) sums
 
--- with what the answers of the devices below n wear
+-- with what the answers of the devices below n wear, of a list that has an entry for each of them
 unfoldable pub addWorn : List Worn → ℕ → List ℕ → List ℕ
 addWorn worn zero sums = sums
 addWorn worn (suc n) sums = addOne (getD worn n (record { «sub_area» = 0; sectors = 0 })) (addWorn worn n sums)
