@@ -21,6 +21,7 @@ use Rattle.rules.specs.Memory.{Memory}
 use Rattle.rules.specs.Queries.{jobInfoOf, memoryInfoOf}
 use Rattle.rules.specs.Wear.{wornIn, stuckWear, wornAt, wearInfoOf}
 use Rattle.wear.specs.Wear.{mostWear}
+use Rattle.rules.specs.statements.JobSets.{JobSets}
 use Rattle.rules.specs.statements.Statements.{RoundInside, AllDemands}
 use Rattle.program.specs.Run.{managerNumber, managerAfter, managerMemory, runOf}
 use Rattle.program.specs.Stands.{stuck, Stands, managerRun}
@@ -55,6 +56,8 @@ pub record Holds (p : Plan) (m : Manager) (h : History) : Type 0 where
 pub record AllCalls : Type 0 where
   pub holds : (l : List ℕ) → loadNumber l ≡ 0 → (cs : List Call) → Holds (planOf l) (runOf cs (loadedManager l)) (run (planOf l) cs freshHistory)
   pub demands : AllDemands managerRun
+  -- "how long can a log write stand behind it?" What a job waits at most where only given jobs are accepted
+  pub job-sets : JobSets managerRun
 
 -- Demand 1 of every manager, also of those that no calls lead to
 pub record EveryManager (m : Manager) : Type 0 where

@@ -40,4 +40,10 @@ pub mod ByAcceptance
 pub mod Devices
 pub mod WearLaws
 pub mod EraseLaws
+pub mod SumLaws
+pub mod AboveLeft
+pub mod AboveFits
+pub mod AboveJobs
+pub mod LockedNone
 pub mod Demands
+pub mod JobSets

@@ -6,3 +6,4 @@ pub mod Order
 pub mod DoneRounds
 pub mod Erases
 pub mod Statements
+pub mod JobSets

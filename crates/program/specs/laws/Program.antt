@@ -12,6 +12,7 @@ use Rattle.plan.specs.Records.{planOf}
 use Rattle.plan.specs.declared.records.Plan.{Plan}
 use Rattle.rules.specs.History.{Call, History, freshHistory, run}
 use Rattle.rules.specs.laws.Demands.{Agrees, agreeing-demands}
+use Rattle.rules.specs.laws.JobSets.{agreeing-job-sets}
 use Rattle.program.specs.Run.{runOf}
 use Rattle.program.specs.Stands.{withCoreAges, beside, Stands, managerRun}
 use Rattle.program.specs.Statements.{Holds, AllCalls, Unloaded}
@@ -62,7 +63,7 @@ agrees l e =
     }
 
 pub all-calls : AllCalls
-all-calls = record { holds = all-holds; demands = agreeing-demands managerRun agrees }
+all-calls = record { holds = all-holds; demands = agreeing-demands managerRun agrees; job-sets = agreeing-job-sets managerRun agrees }
 
 -- the manager of all zeros
 pub unloaded : Unloaded

@@ -40,12 +40,12 @@ pub record TallyFits (p : Layout) (c : Core) (a : ℕ) (w : Tally) : Type 0 wher
   pub left : AtMost (inAll w (leftAt p 0 c a)) (boundsOf p a (c .jobs a .task))
 
 -- the close counts wait k: where u was left of the job, v is
-record Closed (k : Wait) (u v : Left) (w : Tally) : Type 0 where
-  left : AtMost (inAll (count k w) v) (inAll w u)
-  sum : w .rounds ≡ waited w → count k w .rounds ≡ waited (count k w)
+pub record Closed (k : Wait) (u v : Left) (w : Tally) : Type 0 where
+  pub left : AtMost (inAll (count k w) v) (inAll w u)
+  pub sum : w .rounds ≡ waited w → count k w .rounds ≡ waited (count k w)
 
 -- for a job that is pending at the close, whose device is in state x
-closed : (p : Layout) (jobs : ℕ → Job) (a : ℕ) (x : Device) (w : Tally) → isPending (jobs a) ≡ true →
+pub closed : (p : Layout) (jobs : ℕ → Job) (a : ℕ) (x : Device) (w : Tally) → isPending (jobs a) ≡ true →
     DeviceFits p jobs (need p a (jobs a)) x → Busy (x .state) →
     Closed (waitOn p a (x .state)) (leftOf p 0 a (jobs a) x) (leftOf p 1 a (jobs a) x) w
 unfolding leftOf

@@ -10,6 +10,7 @@ use Rattle.plan.specs.declared.records.Plan.{Plan}
 use Rattle.rules.specs.Answers.{callNumber, callMemory}
 use Rattle.rules.specs.History.{Call, freshHistory, step, run}
 use Rattle.rules.specs.Memory.{Memory}
+use Rattle.rules.specs.laws.AboveFits.{above-bounded}
 use Rattle.rules.specs.laws.ByAcceptance.{by-acceptance}
 use Rattle.rules.specs.laws.Demand1.{demand1}
 use Rattle.rules.specs.laws.Demand2.{demand2}
@@ -46,6 +47,7 @@ demands l e cs =
       suspended = suspended-waits p (plan-laws p w) cs;
       erases = erases-whole p w cs freshHistory (λ ds. fits ds .reachable) (λ ds a _. done ds a .cut) (unfold freshHistory in tt);
       demand3 = demand3 p h (fits cs);
+      above-bounded = above-bounded p (plan-laws p w) cs;
     }
 
 -- run r shows, after every list of calls, what the rules' own run shows

@@ -62,7 +62,7 @@ module _ (p : Layout) (r s : ℕ → ℕ → Bool) where
   low-ranked a limit Kept.Nothing e = refl
   low-ranked a limit (Kept.Erase b q) e = ap (λ w. ifBelow w (limit - q)) e
 
-  left-ranked : (t a : ℕ) (j : Job) (x : Device) → SameWaits a x → leftOf (ranked r p) t a j x ≡ leftOf (ranked s p) t a j x
+  pub left-ranked : (t a : ℕ) (j : Job) (x : Device) → SameWaits a x → leftOf (ranked r p) t a j x ≡ leftOf (ranked s p) t a j x
   unfolding leftOf laterLeft
   left-ranked t a j x e = rw (e .0, low-ranked a (p .limit (need p a j)) (x .suspended) (e .1))
 

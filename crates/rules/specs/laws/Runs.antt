@@ -7,6 +7,7 @@ use native.Mathlib.Omega.{arith}
 use lib.Dec.{eqb}
 use Rattle.arith.specs.Cases.{pick, by-eqb}
 use Rattle.memory.specs.declared.DeviceAnswer.{DeviceAnswer}
+use Rattle.memory.specs.declared.LogicalAddress.{LogicalAddress}
 use Rattle.memory.specs.declared.Task.{Task}
 use Rattle.plan.specs.declared.records.Plan.{Plan}
 use Rattle.rules.specs.Admission.{rangeDevice, jobNumber, releaseNumber, cancelNumber, roundNumber, admits}
@@ -20,7 +21,7 @@ use Rattle.rules.specs.Layout.{layoutOf, layoutAt}
 use Rattle.rules.specs.laws.RankLaws.{AgesApart, ages-apart}
 use Rattle.rules.specs.Ranks.{agesAfter}
 use Rattle.rules.specs.laws.Ranked.{reranked, tally-ranked, waits-kept}
-use Rattle.rules.specs.Machine.{Core, isPending, cancel, begin, secondHalf}
+use Rattle.rules.specs.Machine.{Core, isPending, cancel, begin, release, secondHalf}
 use Rattle.rules.specs.Memory.{Memory}
 use Rattle.rules.specs.laws.Potential.{left-idle}
 use Rattle.rules.specs.laws.Reachable.{Reachable, Passes, passed}
@@ -40,7 +41,7 @@ module _ (p : Plan) (L : (ages : ℕ → ℕ) → AgesApart ages → Laws (layou
   Fits = HistoryFits p
 
   -- with the ranks of a moment, and without
-  at : (ages : ℕ → ℕ) (c : Core) → Reachable (layoutOf p) (admits p) c → Reachable (layoutAt p ages) (admits p) c
+  pub at : (ages : ℕ → ℕ) (c : Core) → Reachable (layoutOf p) (admits p) c → Reachable (layoutAt p ages) (admits p) c
   at ages c = reranked (layoutOf p) (layoutOf p .outranks) (layoutAt p ages .outranks) (admits p) c
 
   out : (ages : ℕ → ℕ) (c : Core) → Reachable (layoutAt p ages) (admits p) c → Reachable (layoutOf p) (admits p) c
@@ -61,7 +62,7 @@ module _ (p : Plan) (L : (ages : ℕ → ℕ) → AgesApart ages → Laws (layou
   known a h = h
 
   -- an accepted job
-  submitted-fits : (a : ℕ) (t : Task) (h : History) → Fits h → jobNumber p (h .core) a t ≡ 0 → Fits (submitted p a t h)
+  pub submitted-fits : (a : ℕ) (t : Task) (h : History) → Fits h → jobNumber p (h .core) a t ≡ 0 → Fits (submitted p a t h)
   unfolding submitted begin
   submitted-fits a t h f e =
       let m = job-admitted p (h .core) a t e in
@@ -116,24 +117,28 @@ module _ (p : Plan) (L : (ages : ℕ → ℕ) → AgesApart ages → Laws (layou
   unfolding roundOf
   round-pending answers m h f a = round-started answers m h f .passes .areas a .pending
 
+  -- an accepted release, and an accepted cancel
+  pub released : (a : ℕ) (address : LogicalAddress) (n : ℕ) (h : History) → Fits h → releaseNumber p (h .core) a address n ≡ 0 →
+      Passes (layoutAt p (h .ages)) (admits p) 0 0 (h .core) (release (rangeDevice p a address n) (h .core))
+  released a address n h f e =
+      release-passes (layoutAt p (h .ages)) (admits p) (h .core) (at (h .ages) (h .core) (f .reachable)) (rangeDevice p a address n) a (release-admitted p (h .core) a address n e)
+
+  pub cancelled : (a : ℕ) (h : History) → Fits h → cancelNumber p (h .core) a ≡ 0 →
+      Passes (layoutAt p (h .ages)) (admits p) 0 0 (h .core) (cancel (layoutOf p) a (h .core))
+  unfolding cancel
+  cancelled a h f e = cancel-passes (layoutAt p (h .ages)) (admits p) (h .core) (at (h .ages) (h .core) (f .reachable)) a (cancel-admitted p (h .core) a e)
+
   -- a refused call returns the history itself
   accepted-fits : (n : ℕ) (g h : History) → (n ≡ 0 → Fits g) → Fits h → Fits (pick (eqb n 0) g h)
   accepted-fits n g h f i = by-eqb n 0 (λ e k. rw e (f k)) (λ e _. rw e i)
 
   -- every call
-  step-fits : (x : Call) (h : History) → Fits h → Fits (step p x h)
-  unfolding step cancel
+  pub step-fits : (x : Call) (h : History) → Fits h → Fits (step p x h)
+  unfolding step
   step-fits (submit a t) h f = accepted-fits (jobNumber p (h .core) a t) _ h (submitted-fits a t h f) f
   step-fits (releases a address n) h f =
-      accepted-fits (releaseNumber p (h .core) a address n) _ h
-      (λ e. passes-fits h _ f
-      (release-passes (layoutAt p (h .ages)) (admits p) (h .core) (at (h .ages) (h .core) (f .reachable)) (rangeDevice p a address n) a (release-admitted p (h .core) a address n e)))
-      f
-  step-fits (cancels a) h f =
-      accepted-fits (cancelNumber p (h .core) a) _ h
-      (λ e. passes-fits h _ f
-      (cancel-passes (layoutAt p (h .ages)) (admits p) (h .core) (at (h .ages) (h .core) (f .reachable)) a (cancel-admitted p (h .core) a e)))
-      f
+      accepted-fits (releaseNumber p (h .core) a address n) _ h (λ e. passes-fits h _ f (released a address n h f e)) f
+  step-fits (cancels a) h f = accepted-fits (cancelNumber p (h .core) a) _ h (λ e. passes-fits h _ f (cancelled a h f e)) f
   step-fits (asks q) h f = f
   step-fits (round answers m) h f = accepted-fits (roundNumber p (m .image) (m .store)) _ h (λ _. round-fits answers m h f) f
 
@@ -144,7 +149,7 @@ module _ (p : Plan) (L : (ages : ℕ → ℕ) → AgesApart ages → Laws (layou
   run-fits (x ∷ cs) h f = run-fits cs (step p x h) (step-fits x h f)
 
   -- "At the start nothing runs, is locked or pending, and the numbers are 0."
-  start-fits : Fits freshHistory
+  pub start-fits : Fits freshHistory
   unfolding freshHistory
   start-fits =
       record {

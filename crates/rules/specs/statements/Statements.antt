@@ -1,12 +1,13 @@
 -- document 00: the three demands; document 02: its requests. Each is stated once, of what is seen of a run after a list of calls: of the rules
 -- (`AllDemands`) and of the program (program/Statements).
 use Prim.Native.Nat.{ℕ, _+_, _≤_, _<_}
-use mathlib.Core.Bool.{Bool, true, false, not}
+use mathlib.Core.Bool.{Bool, true, false, not, _&&_}
 use mathlib.Core.List.{List, [], _∷_, _++_}
 use mathlib.Core.Logic.{_≢_, _⊎_}
 use mathlib.Core.Path.{_≡_}
 use lib.Dec.{ltb, eqb}
 use lib.ListN.{length, getD}
+use Rattle.arith.specs.Bounded.{sum}
 use Rattle.arith.specs.Cases.{pick}
 use Rattle.arith.specs.Parts.{upd}
 use Rattle.memory.specs.declared.DeviceAnswer.{DeviceAnswer}
@@ -209,6 +210,44 @@ ownMost p h a = let t = h .core .jobs a .task in ownBound (layoutOf p .limit) (l
 abbrev pub belowMost : Plan → History → ℕ → ℕ
 belowMost p h a = let t = h .core .jobs a .task in belowBound (mostBelow (layoutOf p)) (layoutOf p .segment a t) t
 
+-- "how long can a log write stand behind it?" A bound on above, which the papers do not ask for: each round that a job counts above is an own round
+-- of a job that ranks above it. Area b's job is pending, and ranks above area a's
+abbrev pub isAhead : Plan → History → ℕ → ℕ → Bool
+isAhead p h b a = isPending (h .core .jobs b) && isAbove p h b a
+
+-- the own bound of area b's job, if it is ahead of area a's
+abbrev pub aheadMost : Plan → History → ℕ → ℕ → ℕ
+aheadMost p h b a = pick (isAhead p h b a) (ownMost p h b) 0
+
+-- A job of area a was just accepted, and before it the areas had the numbers `most`. The number of area a becomes the sum of the own bounds of the jobs
+-- ahead of the new one; where the new one is ahead of a pending job, the number of that job's area grows by the own bound of the new one.
+abbrev pub aboveAccepted : Plan → History → ℕ → (ℕ → ℕ) → ℕ → ℕ
+aboveAccepted p h a most b =
+    pick (eqb b a)
+    (sum (λ i. aheadMost p h i a) (p .«area_count»))
+    (most b + pick (isPending (h .core .jobs b)) (aheadMost p h a b) 0)
+
+-- call k comes at history h: only an accepted job or lock changes the numbers
+abbrev pub aboveNext : Plan → Call → History → (ℕ → ℕ) → ℕ → ℕ
+aboveNext p (submit a t) h most = pick (eqb (jobNumber p (h .core) a t) 0) (aboveAccepted p (step p (submit a t) h) a most) most
+aboveNext p (releases a address n) h most = most
+aboveNext p (cancels a) h most = most
+aboveNext p (asks q) h most = most
+aboveNext p (round answers mem) h most = most
+
+unfoldable pub aboveFrom : Plan → List Call → History → (ℕ → ℕ) → ℕ → ℕ
+aboveFrom p [] h most = most
+aboveFrom p (k ∷ ks) h most = aboveFrom p ks (step p k h) (aboveNext p k h most)
+
+-- after a list of calls: for each area the own bounds of the jobs that were ahead of its latest job when it was accepted, or were accepted ahead of it
+-- before its end
+abbrev pub aboveMost : Plan → List Call → ℕ → ℕ
+aboveMost p cs = aboveFrom p cs freshHistory (λ a. 0)
+
+-- the rounds that a job counts above are at most these
+abbrev pub AboveBounded : Plan → History → List Call → Type 0
+AboveBounded p h cs = (a : ℕ) → h .tallies a .above ≤ aboveMost p cs a
+
 -- "Each area's latest job has rounds = own + above + below + locked, and one more if a round ended it.": area a
 pub record Demand3 (p : Plan) (h : History) (a : ℕ) : Type 0 where
   pub sum : let w = h .tallies a in w .rounds ≡ w .own + w .above + w .below + w .locked + pick (w .byRound) 1 0
@@ -230,6 +269,8 @@ pub record Demands (p : Plan) (r : Run) (cs : List Call) : Type 0 where
   pub suspended : SuspendedNotRunning p (r cs .now)
   pub erases : AllWhole p (r cs .now .erases)
   pub demand3 : (a : ℕ) → Demand3 p (r cs .now) a
+  -- "how long can a log write stand behind it?" The rounds above are own rounds of the jobs ahead
+  pub above-bounded : AboveBounded p (r cs .now) cs
 
 -- "This holds after every list of jobs, locks, releases, cancels, queries and rounds from an accepted load, refused ones
 -- included, whatever the chips answer and whatever image and store hold."
@@ -271,3 +312,12 @@ pub record ReachedOn (can : Bool) : Type 0 where
 
 abbrev pub BoundsReached : Type 0
 BoundsReached = (can : Bool) → ReachedOn can
+
+-- The bound on above is reached too, after some calls from an accepted load.
+pub record AboveReached : Type 0 where
+  pub plan : List ℕ
+  pub accepted : loadNumber plan ≡ 0
+  pub calls : List Call
+  pub area : ℕ
+  pub some : 1 ≤ run (planOf plan) calls freshHistory .tallies area .above
+  pub reached : run (planOf plan) calls freshHistory .tallies area .above ≡ aboveMost (planOf plan) calls area
