@@ -1,16 +1,27 @@
-# make run: the bench on a plan and a session. make test: all proofs and tests.
+# make run: the bench on a plan and a session. make audit: the figures of a plan and a list of jobs. make picture: a session drawn. make test: all proofs and tests.
 PLAN ?= examples/plan-t/plan.bin
 SESSION ?= examples/plan-t/session.txt
+JOBS ?= examples/audits/plan-t/jobs.txt
+OUT ?= picture.svg
 
 # How long `make fuzz` looks for a difference, and from which seed on (empty: a new one).
 SECONDS ?= 60
 SEED ?=
 
-.PHONY: run test bench fuzz model
+.PHONY: run audit picture test bench fuzz model
 
 run:
 	@sh tools/prove.sh bench
-	@sh tools/run-bench.sh "$(PLAN)" "$(SESSION)"
+	@sh tools/run-program.sh bench "$(PLAN)" "$(SESSION)"
+
+audit:
+	@sh tools/prove.sh audit
+	@sh tools/run-program.sh audit "$(PLAN)" "$(JOBS)"
+
+# A session as an SVG: what each device ran, what each job waited for, and the bounds.
+picture:
+	@sh tools/prove.sh bench audit
+	@sh tools/picture.sh "$(PLAN)" "$(SESSION)" "$(OUT)"
 
 model:
 	@sh tools/need.sh cargo

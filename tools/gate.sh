@@ -55,7 +55,7 @@ own_tests() {
 
 comparisons() {
     cargo test --offline --release --quiet --manifest-path model/Cargo.toml --features timing,session \
-        --test proved_load --test proved_calls --test proved_session --test proved_queries
+        --test proved_load --test proved_calls --test proved_session --test proved_queries --test proved_audit
 }
 
 echo "the gate: every proof, edit and test from nothing, in about 16 min on two cores; each part says how long it took"
@@ -64,7 +64,8 @@ begin_own_tests
 part "proofs and edits" proofs
 part "edits of several functions" sh tools/refused.sh
 part "the model's own tests, begun beside them" own_tests
-part "recorded runs" sh tools/recorded-runs.sh
+part "recorded runs and audits" sh tools/recorded-runs.sh
+part "pictures" sh tools/picture-check.sh
 part "libraries" sh tools/prove.sh --library interface timing
 part "the model compared with the libraries" comparisons
 cat "$room/verdict"

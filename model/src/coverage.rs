@@ -1,8 +1,9 @@
 //! What sessions tried, told from their lines and what they printed: shows, and lets tests assert,
 //! that no kind of line, refusal, answer or result went untried, nor the order of acceptance, nor the
 //! erases that give way, nor the writes on chips that only clear bits, nor the burst test, nor the wear
-//! account.
+//! account, nor the bound on above.
 
+mod above;
 mod bursts;
 mod clearing;
 mod equals;
@@ -54,6 +55,8 @@ pub enum Kind {
     Result(u8),
     /// Info in which this count is not 0.
     Wait(Count),
+    /// Info in which above is not 0 and all that the jobs above can take.
+    AboveAtBound,
     /// A request of this type took this answer.
     Answer(u8, Answer),
     /// An answer for a device on which nothing runs.
@@ -159,6 +162,7 @@ pub fn all_kinds() -> Vec<Kind> {
         Kind::Ignored(Device::Locked),
         Kind::Busy,
         Kind::AllMarks,
+        Kind::AboveAtBound,
         Kind::Image(Image::Blank),
         Kind::Image(Image::Drawn),
     ];

@@ -4,6 +4,7 @@
 //! the other. What the book says is not taken from the manager: it has a state of its own and is
 //! asked before the manager is called.
 
+mod above;
 mod clearing;
 mod memory;
 mod suspensions;
@@ -21,8 +22,10 @@ use crate::jobs::{Answer, JobResult};
 use crate::manager::{DeviceState, JobInfo, Manager, Request, RequestInfo, Waits};
 use crate::plan::Plan;
 use crate::plans::encode;
+use crate::segments::index;
 use crate::sessions::{Memory, Step};
 use crate::wait_book::{Entry, Fate, Finished, Numbers, Outcome, Station, Task, WaitBook, Work};
+use above::AboveBounds;
 use clearing::Round;
 
 /// A manager and a wait book that meet the same calls.
@@ -36,6 +39,7 @@ pub struct Trial {
     results: Vec<JobResult>,
     /// Of each area: has its request, which runs again, been suspended?
     resumed: Vec<bool>,
+    above_bounds: AboveBounds,
 }
 
 /// What does not hold.
@@ -60,6 +64,7 @@ impl Trial {
             store,
             results: vec![JobResult::Ok; plan.areas.len()],
             resumed: vec![false; plan.areas.len()],
+            above_bounds: AboveBounds::of(plan),
         }
     }
 
@@ -98,6 +103,7 @@ impl Trial {
         for area in 0..self.plan.areas.len() {
             self.note_result(area, before.entry(area), &fates);
             self.check_area(area)?;
+            self.check_above(area).map_err(|failure| format!("area {area}: {failure}"))?;
             tally.add_entry(before.entry(area), self.book.entry(area), &self.results[area]);
             self.note_bounds(area, before.entry(area), tally);
         }
@@ -127,8 +133,14 @@ impl Trial {
         self.book = book;
         tally.add_call(call, number);
         ensure(number == owed, || format!("number {number}, the book has {owed}"))?;
-        if let (0, Call::Query(Query::WearInfo(address), area)) = (number, call) {
-            self.note_asked(*area, *address, &mut tally.wear);
+        match (number, call) {
+            (0, Call::Query(Query::WearInfo(address), area)) => {
+                self.note_asked(*area, *address, &mut tally.wear);
+            }
+            (0, Call::Job(_, target) | Call::Lock(target)) => {
+                self.above_bounds.accept(&self.plan, &self.book, index(u64::from(target.area)));
+            }
+            _ => {}
         }
         let may_change = number == 0 && !matches!(call, Call::Query(..));
         ensure(may_change || self.manager == before, || "demand 1: the manager changed".into())
@@ -229,7 +241,8 @@ impl Trial {
         if let (true, false, Some(work)) = (before.is_pending, entry.is_pending, &entry.work) {
             let own = (entry.numbers.own, self.book.own_bound(work));
             let below = (entry.numbers.below, self.book.below_bound(work));
-            tally.add_bounds(own, below);
+            let above = (entry.numbers.above, self.above_bound(area));
+            tally.add_bounds([own, below, above]);
             tally.suspensions.add_below(below.0, self.book.single_below_bound(work), below.1);
         }
     }

@@ -13,7 +13,8 @@
 //! - [`admission`]: the questions asked of calls (10 to 19);
 //! - [`manager`]: jobs, locks, releases, cancels, rounds and queries, with question 9;
 //! - [`wait_book`]: the definition that the counts of demand 3 are held against;
-//! - [`session`]: the bench program of the printed session.
+//! - [`session`]: the bench program of the printed session;
+//! - [`audit`]: reach and waits of jobs, told from a plan and a list of them.
 //!
 //! What tries them:
 //!
@@ -35,6 +36,7 @@
 
 pub mod admission;
 pub mod answers;
+pub mod audit;
 pub mod calls;
 pub mod coverage;
 pub mod demands;

@@ -91,10 +91,7 @@ impl Script {
         if random.one_in(BETWEEN_BUSY_ONES) {
             return Script::busy(random);
         }
-        let plan = match random.below(8) {
-            0 => doubtful_plan(random),
-            _ => encode(&bench_plan(random)),
-        };
+        let plan = drawn_plan(random);
         let is_taken = plan::load(&plan).is_ok_and(|plan| plan.device_sum() <= BENCH_SUM_LIMIT);
         let line_count = if is_taken { random.index(most_lines) + 1 } else { random.index(4) };
         Script {
@@ -137,6 +134,14 @@ impl Script {
             input.push(b'\n');
         }
         input
+    }
+}
+
+/// A plan that the bench takes in most cases.
+pub fn drawn_plan(random: &mut Random) -> Vec<u8> {
+    match random.below(8) {
+        0 => doubtful_plan(random),
+        _ => encode(&bench_plan(random)),
     }
 }
 

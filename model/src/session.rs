@@ -14,7 +14,7 @@ pub const BENCH_SUM_LIMIT: u64 = 65_536;
 /// "store 65,536 zeros"
 pub const STORE_LENGTH: usize = 65_536;
 /// The answer to whatever the bench cannot read.
-const UNREADABLE: &str = "?";
+pub const UNREADABLE: &str = "?";
 
 /// A bench with its plan loaded. Image and store are open, as they are lent to each round.
 #[derive(Clone)]
@@ -119,7 +119,7 @@ impl Session {
 
 /// "A refused plan prints only its number; a plan above that sum, over 4,096 bytes or unreadable
 /// prints only "?"."
-fn load(plan: Option<&[u8]>) -> Result<Manager, String> {
+pub fn load(plan: Option<&[u8]>) -> Result<Manager, String> {
     let bytes = plan.filter(|bytes| bytes.len() <= PLAN_LIMIT).ok_or(UNREADABLE)?;
     let manager = Manager::load(bytes).map_err(|number| number.to_string())?;
     if manager.plan().device_sum() > BENCH_SUM_LIMIT {

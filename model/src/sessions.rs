@@ -14,7 +14,7 @@ mod suspensions;
 
 pub use busy::{busy_calls, busy_plan};
 pub use calls::{steps, Memory, Step};
-pub use lines::{lines, lines_of, text, Line};
+pub use lines::{job_lines, lines, lines_of, text, Line};
 
 use crate::plan::Plan;
 use crate::plans::{draw_marks, draw_sizes, draw_wear, full, largest, small, valid};

@@ -98,7 +98,7 @@ fn assert_tried(tally: &Tally, often: u64) {
     for (wait, count) in ["own", "above", "below", "locked"].iter().zip(tally.waits) {
         assert!(count >= u128::from(often), "{wait}: only {count}");
     }
-    let bounds = [tally.own_bounds_reached, tally.below_bounds_reached];
+    let bounds = [tally.own_bounds_reached, tally.below_bounds_reached, tally.above_bounds_reached];
     assert!(bounds.iter().all(|reached| *reached >= often), "{bounds:?}");
     for (name, count) in tally.suspensions.counts() {
         assert!(count >= often / 4, "erases, {name}: only {count}");
@@ -314,6 +314,33 @@ fn both_bounds_are_reached() {
     assert_eq!(own, (9 + 9 + 8 + 3, 29));
     let [_, below] = bounds_after(&three_stretches(), &slowest_others());
     assert_eq!(below, (2 + 3 + 2, 7));
+}
+
+/// On plan T, by hand. Area 1 ranks above and takes all that its write of four pieces can, 2 rounds each,
+/// before area 0 starts; and when area 0 has its first piece done, all that its next write can.
+#[test]
+fn bound_on_above_is_reached() {
+    let job = |area, address, length| {
+        Step::Call(Call::Job(Operation::Write, Target { area, address, length }))
+    };
+    let (p, d) = (round(Answer::Pending, Answer::Pending), round(Answer::Done, Answer::Done));
+    // The first round starts a piece, and so does each that answers done.
+    let write: Vec<_> = std::iter::repeat_n([p.clone(), d.clone()], 4).flatten().collect();
+    let mut trial = Trial::of(&plan_t(), vec![255; 64], vec![0; 32]);
+    let mut take = |steps: &[Step]| {
+        run(&mut trial, steps, &mut Tally::default(), "above");
+        (trial.book().entry(0).numbers.above, trial.above_bound(0))
+    };
+    assert_eq!(take(&[job(0, 4, 12)]), (0, 0));
+    assert_eq!(take(&[job(1, 256, 16)]), (0, 8));
+    assert_eq!(take(&[p]), (1, 8));
+    assert_eq!(take(&write), (8, 8));
+    // Area 0's first piece runs.
+    assert_eq!(take(&[job(1, 256, 16)]), (8, 16));
+    assert_eq!(take(std::slice::from_ref(&d)), (9, 16));
+    assert_eq!(take(&write), (16, 16));
+    assert_eq!(take(&[d]), (16, 16));
+    assert!(trial.book().entry(0).round_ended_it);
 }
 
 /// "On such chips the bound on rounds below becomes twice (patience less one) per stretch": on those

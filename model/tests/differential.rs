@@ -45,6 +45,8 @@ fn the_sessions_try_everything() {
     assert_sizes_are_tried(&coverage);
     assert_bursts_are_tried(&coverage);
     assert_wear_is_tried(&coverage);
+    let at_bound = coverage.count(Kind::AboveAtBound);
+    assert!(at_bound >= 100, "above at its bound: only {at_bound}");
 }
 
 /// On half of the plans or more the order of acceptance matters, and it decides often.
@@ -207,6 +209,20 @@ fn wear_is_counted() {
         counts(&on_t),
         [(Wear::Done, 1), (Wear::DoneOfSeveral, 1), (Wear::WithoutRecord, 1)]
     );
+}
+
+/// By hand, on plan T: area 1's write is one piece of 2 rounds at most, and area 0 waits for both of them, or for
+/// one. When area 1 has ended, its job is no more among those above; cancelled before it starts, it takes none.
+#[test]
+fn above_at_its_bound_is_counted() {
+    let count = |lines: &[&str]| coverage_of(&plan_t(), lines).count(Kind::AboveAtBound);
+    let both = ["1 0 4 4", "1 1 256 4", "0 p", "0 p", "0 d"];
+    assert_eq!(count(&[&both[..], &["10 0", "10 1"]].concat()), 1);
+    assert_eq!(count(&["1 0 4 4", "1 1 256 4", "0 p", "0 d", "10 0", "10 1"]), 0);
+    let ended = ["1 1 256 4", "0 p", "0 d"];
+    assert_eq!(count(&[&ended[..], &both, &["10 0"]].concat()), 1);
+    let cancelled = ["1 1 256 16", "9 1"];
+    assert_eq!(count(&[&cancelled[..], &both, &["10 0"]].concat()), 1);
 }
 
 #[test]

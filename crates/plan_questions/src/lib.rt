@@ -182,7 +182,7 @@ fn size_in(sub_area: SubAreaRecord, area: usize) -> u64
     0
 }
 
-fn area_size(sub_areas: [SubAreaRecord; 32], count: usize, area: usize) -> u64
+pub fn area_size(sub_areas: [SubAreaRecord; 32], count: usize, area: usize) -> u64
     requires { ⌜ count ≤ 32 ⌝ }
     requires { ⌜ ((i : ℕ) → i < count → sizeOf (subAreaOf «sub_areas» i) ≤ 16777216) ⌝ }
     ensures { λ r. ⌜ (r ≡ areaSize «sub_areas» count area) × (r ≤ 536870912) ⌝ }

@@ -10,7 +10,7 @@ ghost use Rattle.session.specs.laws.FoldLaws.{sessionOf};
 ghost use Rattle.session.specs.PlanText.{openText, imageLength, closedOf};
 
 pub mod fold;
-mod play;
+pub mod play;
 
 use crate::fold::Progress;
 use crate::fold::play_lines;

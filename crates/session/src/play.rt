@@ -52,7 +52,7 @@ fn job_of(kind: JobType, target: Target) -> PlainCall
     }
 }
 
-fn plain_of(call: LineCall) -> PlainCall
+pub fn plain_of(call: LineCall) -> PlainCall
     ensures { λ r. ⌜ r ≡ plainOf call ⌝ }
 {
     match call {

@@ -44,7 +44,7 @@ fn digit_at(n: u64, power: u64) -> u8
 }
 
 // A number takes at most 20 bytes.
-fn push_number(out: &mut [u8], at: usize, n: u64) -> usize
+pub fn push_number(out: &mut [u8], at: usize, n: u64) -> usize
     requires { ⌜ at + 20 ≤ length (now out) ⌝ }
     ensures { λ r. ⌜ (Appended (now (out .entry)) (now (out .exit)) at r (decimal n)) × (r ≤ at + 20) ⌝ }
 {

@@ -4,7 +4,7 @@
 //! shown, and between a piece that was done and the next one that is shown. Polls, suspended erases and
 //! the bytes that were written are known from what is shown and answered.
 
-use super::{bursts, clearing, equals, suspensions, wear};
+use super::{above, bursts, clearing, equals, suspensions, wear};
 use super::{fields, number, Kind};
 use crate::jobs::Operation;
 use crate::plan::Plan;
@@ -35,10 +35,14 @@ pub(super) struct Accepted {
     pub(super) number: u64,
     /// None if it is a lock request.
     pub(super) operation: Option<Operation>,
-    pieces: Vec<Piece>,
+    pub(super) pieces: Vec<Piece>,
     /// The devices of its stretches.
     pub(super) stretches: Vec<usize>,
     pub(super) is_cancelled: bool,
+    /// Is it known to have ended?
+    pub(super) is_over: bool,
+    /// The own rounds at most of the jobs that rank above it, those that may be over among them.
+    pub(super) above_bound: u64,
     /// The device that it is known to wait for.
     waits_for: Option<usize>,
 }
@@ -146,7 +150,11 @@ impl<'a> Follower<'a> {
                 self.shown[device.expect("inside the area")] = Shown::Nothing;
             }
             ([9, area], b"0") => return self.cancel(index(*area)),
-            ([10, area], _) => return suspensions::of_info(self, index(*area), answer),
+            ([10, area], _) => {
+                let mut came_up = suspensions::of_info(self, index(*area), answer);
+                came_up.extend(above::of_info(self, index(*area), answer));
+                return came_up;
+            }
             ([job_type, area, address, length], b"0") => {
                 self.accept(*job_type, index(*area), *address..*address + *length);
             }
@@ -171,15 +179,21 @@ impl<'a> Follower<'a> {
             pieces,
             stretches,
             is_cancelled: false,
+            is_over: false,
+            above_bound: 0,
             waits_for,
         });
         self.acceptances[area] += 1;
+        above::accept(self, area);
     }
 
     fn cancel(&mut self, area: usize) -> Vec<Kind> {
         let came_up = suspensions::of_cancel(self, area);
+        let is_suspended = self.suspended.iter().flatten().any(|erase| erase.area == area);
+        let has_request = is_suspended || self.shown.iter().any(|s| s.area() == Some(area));
         if let Some(job) = &mut self.jobs[area] {
             job.is_cancelled = true;
+            job.is_over |= !has_request;
             job.waits_for = None;
         }
         came_up
@@ -203,11 +217,13 @@ impl<'a> Follower<'a> {
         came_up
     }
 
-    /// Behind a done piece a job waits for the device of its next one.
+    /// Behind a done piece a job waits for the device of its next one, or is over.
     fn follow_done_pieces(&mut self, words: &[&[u8]]) {
         for (device, word) in words.iter().enumerate() {
             if let (Shown::Request { area, start, .. }, b"d") = (self.shown[device], *word) {
                 if let Some(job) = &mut self.jobs[area] {
+                    let is_last = job.pieces.last().is_some_and(|piece| piece.start == start);
+                    job.is_over |= is_last || job.is_cancelled;
                     job.waits_for = job.device_behind(start);
                 }
             }

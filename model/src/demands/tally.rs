@@ -25,9 +25,10 @@ pub struct Tally {
     /// Requests answered done, and failed ones that were due again.
     pub done_pieces: u64,
     pub retries: u64,
-    /// Jobs that ended with own, or with a below other than 0, at its bound.
+    /// Jobs that ended with an own, a below or an above other than 0 at its bound.
     pub own_bounds_reached: u64,
     pub below_bounds_reached: u64,
+    pub above_bounds_reached: u64,
     /// Jobs and locks accepted for each area.
     pub acceptances: [u64; MOST_AREAS],
     pub equals: Equals,
@@ -102,10 +103,13 @@ impl Tally {
         }
     }
 
-    /// A job ended with these numbers and bounds.
-    pub fn add_bounds(&mut self, own: (u128, u128), below: (u128, u128)) {
-        self.own_bounds_reached += u64::from(own.0 > 0 && own.0 == own.1);
-        self.below_bounds_reached += u64::from(below.0 > 0 && below.0 == below.1);
+    /// A job ended with these numbers, own, below and above, each with its bound.
+    pub fn add_bounds(&mut self, numbers: [(u128, u128); 3]) {
+        let is_reached = |(number, bound): (u128, u128)| u64::from(number > 0 && number == bound);
+        let [own, below, above] = numbers.map(is_reached);
+        self.own_bounds_reached += own;
+        self.below_bounds_reached += below;
+        self.above_bounds_reached += above;
     }
 
     /// How often jobs ended with a result, over all types.
@@ -155,7 +159,8 @@ impl fmt::Display for Tally {
         writeln!(f, "waits: own {own}, above {above}, below {below}, locked {locked}")?;
         writeln!(f, "pieces done: {}, retries: {}", self.done_pieces, self.retries)?;
         let (own, below) = (self.own_bounds_reached, self.below_bounds_reached);
-        writeln!(f, "jobs at the bound on own: {own}, on below: {below}")?;
+        let above = self.above_bounds_reached;
+        writeln!(f, "jobs at the bound on own: {own}, on below: {below}, on above: {above}")?;
         writeln!(f, "between equals:{}", listed(&self.equals.counts()))?;
         writeln!(f, "erases:{}", listed(&self.suspensions.counts()))?;
         writeln!(f, "writes with a byte of neither version:{}", listed(&self.clearing.counts()))?;

@@ -3,7 +3,7 @@
 
 use super::calls::Drawer;
 use crate::calls::{Call, Query};
-use crate::jobs::{Answer, Target};
+use crate::jobs::{Answer, Operation, Target};
 use crate::plan::Plan;
 use crate::random::Random;
 
@@ -28,6 +28,51 @@ pub fn lines(random: &mut Random, plan: &Plan, count: usize) -> Vec<Line> {
         }
     }
     lines
+}
+
+/// A list of up to so many lines for an audit: jobs and locks, whole and damaged, some of them twice, and a
+/// few other lines of a session, which are no jobs.
+pub fn job_lines(random: &mut Random, plan: &Plan, count: usize) -> Vec<Line> {
+    let drawn = lines(random, plan, 3 * count);
+    let mut kept: Vec<Line> = Vec::new();
+    for line in drawn {
+        if kept.len() + 1 >= count {
+            break;
+        }
+        if matches!(line.call, None | Some(Call::Job(..) | Call::Lock(_))) || random.one_in(16) {
+            kept.extend(random.one_in(12).then(|| line.clone()));
+            kept.push(match random.below(24) {
+                0 => of_unknown_area(random, plan),
+                1..=3 => of_whole_area(random, plan),
+                _ => line,
+            });
+        }
+    }
+    kept
+}
+
+/// A job or lock of all that an area has, on however many devices.
+fn of_whole_area(random: &mut Random, plan: &Plan) -> Line {
+    let area = random.index(plan.areas.len());
+    let target = Target {
+        area: u32::try_from(area).expect("at most 8 areas"),
+        address: plan.areas[area].logical_start,
+        length: u32::try_from(plan.area_size(area)).expect("inside the image"),
+    };
+    let operation = random.pick(&Operation::ALL);
+    plain_line(if random.one_in(6) { Call::Lock(target) } else { Call::Job(operation, target) })
+}
+
+/// A job of an area that no plan has.
+fn of_unknown_area(random: &mut Random, plan: &Plan) -> Line {
+    let area = random.pick(&[8, 255, 256, u32::MAX]);
+    let target = Target { area, address: plan.areas[0].logical_start, length: 1 };
+    plain_line(Call::Job(random.pick(&Operation::ALL), target))
+}
+
+fn plain_line(call: Call) -> Line {
+    let fields = fields(&call, 0).expect("a job or lock has a line");
+    Line { text: joined(&fields), call: Some(call) }
 }
 
 /// The plain lines that ask for these calls, as far as lines can.

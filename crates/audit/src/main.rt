@@ -1,0 +1,3 @@
+fn main() {
+    audit_run::run();
+}

@@ -1,0 +1,4 @@
+pub mod LoadLaws
+pub mod LineLaws
+pub mod TableLaws
+pub mod JobLaws

@@ -1,0 +1,3 @@
+pub mod BoundLaws
+pub mod RangeLaws
+pub mod Reach

@@ -1,0 +1,3 @@
+pub mod JobRows
+pub mod Cursors
+pub mod laws
