@@ -99,7 +99,7 @@ loop-again c =
       omega (arith, c .behind2 .ensures, l .inv .0),
       omega (arith, c .behind2 .ensures, segment-fits (a .plan) (a .area) (a .task) f (l .next) (l .inv .2) taken s is),
       rw (c .behind2 .ensures) (next-cut (a .plan) (a .area) (a .task) f (l .next) (l .inv .2) taken s is),
-      rw (c .behind2 .ensures) (l .inv .3 ∙ range-more (a .plan) (a .area) (a .task) f (l .next) (l .inv .2) taken s is _ (c .before .before .before .before .if2 .left) (c .before .before .if3 .left)),
+      rw (c .behind2 .ensures) (l .inv .3 ∙ range-more (a .plan) (a .area) (a .task) f (l .next) (l .inv .2) taken s is _ (omega (arith, c .before .before .before .before .if2 .left)) (omega (arith, c .before .before .if3 .left))),
       omega (arith, l .inv .4),
       omega (arith, c .before .before .if3 .left),
       l .inv .6,
