@@ -1,8 +1,7 @@
 -- The audit of a plan and a list of jobs: which jobs the lines of the input are, and what is said of each.
 use Prim.Native.Nat.{ℕ, min}
-use mathlib.Core.Bool.{Bool, false, true}
+use mathlib.Core.Bool.{false}
 use mathlib.Core.List.{List, [], _∷_, _++_}
-use mathlib.Core.Path.{_≡_}
 use lib.Dec.{eqb}
 use Rattle.arith.specs.Cases.{pick}
 use Rattle.figures.specs.Figures.{boundsOf}

@@ -1,20 +1,17 @@
 // The audit of a plan and a list of jobs: the jobs of the lines, and what is known of each.
-ghost use mathlib.Core.Bool.{Bool, true, false};
-ghost use mathlib.Core.List.{List, [], _∷_};
+ghost use mathlib.Core.Bool.{true, false};
+ghost use mathlib.Core.List.{List};
 ghost use mathlib.Core.Path.{_≡_};
-ghost use Prim.Native.Nat.{ℕ, _+_, _≤_, _<_, min};
-ghost use lib.Dec.{eqb};
-ghost use lib.ListN.{length, getD};
-ghost use Rattle.arith.specs.Cases.{pick};
+ghost use Prim.Native.Nat.{_+_, _<_, min};
+ghost use lib.ListN.{length};
 ghost use Rattle.job_rows.specs.JobRows.{tooLarge};
 ghost use Rattle.manager.specs.Calls.{jobNumberOf};
-ghost use Rattle.rules.specs.statements.JobSets.{AreaJob, isAdmissible, mayRankAbove, jobAbove, jobsAbove, isOn, jobLocks, anyLocks};
+ghost use Rattle.rules.specs.statements.JobSets.{AreaJob, mayRankAbove, jobAbove, jobsAbove, jobLocks, anyLocks};
 ghost use Rattle.segment.specs.Segments.{isLock};
-ghost use Rattle.session.specs.AllLines.{linesIn, linesOf};
-ghost use Rattle.lines.specs.Fields.{cutFrom};
+ghost use Rattle.session.specs.AllLines.{linesOf};
 ghost use Rattle.audits.specs.Audits.{jobOfCall, jobOfLine, jobsIn, factsOf, unreadableRow};
 ghost use Rattle.audits.specs.laws.LoadLaws.{Loaded};
-ghost use Rattle.audits.specs.laws.LineLaws.{linesFrom, NextJob};
+ghost use Rattle.audits.specs.laws.LineLaws.{NextJob};
 ghost use Rattle.audits.specs.laws.TableLaws.{Tabled};
 use figures::Bounds;
 use figures::job_bounds;

@@ -1,16 +1,14 @@
 -- document 00, demand 3: the figures of a job. They are the definitions that demand 3 uses, with the counts of segments and stretches.
-use Prim.Native.Nat.{ℕ, _+_, _*_}
+use Prim.Native.Nat.{ℕ}
 use mathlib.Core.Bool.{Bool, true, false}
 use mathlib.Core.List.{List, [], _∷_}
-use lib.Dec.{eqb}
 use lib.ListN.{length}
 use Rattle.arith.specs.Cases.{pick}
 use Rattle.memory.specs.declared.Task.{Task}
-use Rattle.plan.specs.Questions.{deviceOf}
 use Rattle.plan.specs.WellFormed.{WellFormed}
 use Rattle.plan.specs.declared.records.Plan.{Plan}
 use Rattle.rules.specs.Layout.{layoutOf, mostBelow}
-use Rattle.segment.specs.Segments.{isLock, spanMost, segmentAt, segmentsFrom, spans, ownBound, belowBound}
+use Rattle.segment.specs.Segments.{isLock, segmentAt, segmentsFrom, spans, ownBound, belowBound}
 use Rattle.segment.specs.declared.Segment.{Segment}
 use Rattle.segment.specs.laws.SegmentLaws.{Admitted}
 use Rattle.figures.specs.declared.Bounds.{Bounds}

@@ -1,10 +1,9 @@
 // The auditor's figures of a job: the bounds of demand 3, and the image bytes that it reaches.
-ghost use mathlib.Core.Bool.{true, false};
 ghost use mathlib.Core.List.{_∷_};
 ghost use mathlib.Core.Path.{_≡_};
 ghost use Prim.Native.Nat.{_+_, _*_, _≤_, _<_};
 ghost use Rattle.plan.specs.Questions.{deviceOf};
-ghost use Rattle.segment.specs.Segments.{isLock, spanMost, segmentAt, segmentsFrom};
+ghost use Rattle.segment.specs.Segments.{spanMost, segmentAt, segmentsFrom};
 ghost use Rattle.segment.specs.laws.CutLaws.{Cut};
 ghost use Rattle.figures.specs.Figures.{Audited, boundsOf, factorOf};
 ghost use Rattle.figures.specs.Ranges.{rangesOf};

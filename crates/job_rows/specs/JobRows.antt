@@ -1,6 +1,6 @@
 -- What the audit says of a job: its head, the bytes that it reaches, how it is cut, and how long it waits at most.
 use Prim.Native.Nat.{ℕ, _+_, _-_, _*_, min}
-use mathlib.Core.Bool.{Bool, not, _||_}
+use mathlib.Core.Bool.{not, _||_}
 use mathlib.Core.List.{List, [], _∷_, _++_}
 use lib.Dec.{ltb, eqb}
 use Rattle.arith.specs.Cases.{pick}

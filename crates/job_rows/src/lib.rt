@@ -1,15 +1,14 @@
 // The rows of a job: what the auditor's program says of it, a row at a time.
-ghost use mathlib.Core.Bool.{Bool, true, false};
+ghost use mathlib.Core.Bool.{true, false};
 ghost use mathlib.Core.List.{[], _∷_};
 ghost use mathlib.Core.Path.{_≡_};
 ghost use Prim.Native.Nat.{ℕ, _+_, _≤_, _<_, min};
-ghost use lib.ListN.{length, drop};
+ghost use lib.ListN.{length};
 ghost use Rattle.figures.specs.Figures.{Audited};
-ghost use Rattle.plan.specs.Questions.{areaOf};
 ghost use Rattle.rows.specs.Rows.{rowsText};
 ghost use Rattle.rows.specs.Written.{Written};
-ghost use Rattle.segment.specs.Segments.{isLock, segmentAt};
-ghost use Rattle.job_rows.specs.JobRows.{headForm, headRow, refusedRow, imageForm, imageRow, noImageRow, windowForm, windowRow, stretchRow, segmentRow, aboveRow, lockedRow, roundsRow, footRows, tooLarge, roundsMost};
+ghost use Rattle.segment.specs.Segments.{isLock};
+ghost use Rattle.job_rows.specs.JobRows.{headForm, headRow, refusedRow, imageForm, imageRow, windowForm, windowRow, stretchRow, segmentRow, aboveRow, lockedRow, roundsRow, tooLarge, roundsMost};
 ghost use Rattle.job_rows.specs.Cursors.{rowsLeft, AtSegment, AtRow, Ready, isEnd, Fits};
 ghost use Rattle.job_rows.specs.laws.JobRowLaws.{StepDone, footAt, headStep, footStep};
 ghost use Rattle.job_rows.specs.declared.Cursor.the-variants.{Image, Window, Cut, End};
@@ -523,6 +522,7 @@ fn job_step(plan: Plan, area: usize, task: Task, facts: JobFacts, cursor: Cursor
             spans,
         } => segment_step(plan, area, task, at, last, segments, spans),
         Cursor::Foot(i) => foot_step(facts, i),
+        // never: there a row is left
         Cursor::End => refused_step(facts),
     }
 }

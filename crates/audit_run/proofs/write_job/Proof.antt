@@ -1,7 +1,5 @@
-use Prim.Native.Nat.{_≤_}
 use lib.ListN.{length}
-use mathlib.Core.Path.{_≡_, refl, _∙_}
-use native.Mathlib.Omega.{arith}
+use mathlib.Core.Path.{_≡_}
 use borrow.Author.Needs.{needs}
 use Rattle.job_rows.specs.Cursors.{Fits}
 use Rattle.audit_run.proofs.write_job.Statement.{statement}

@@ -1,17 +1,16 @@
 -- A plan of which nothing is printed was accepted.
 use Prim.Native.Nat.{ℕ, _+_, _≤_}
-use mathlib.Core.List.{List, []}
-use mathlib.Core.Path.{_≡_, refl}
+use mathlib.Core.List.{List}
+use mathlib.Core.Path.{_≡_}
 use native.Mathlib.Omega.{arith}
 use borrow.Author.Tests.{le-ltb}
 use lib.ListN.{length}
-use Rattle.arith.specs.Cases.{pick, by-ltb}
+use Rattle.arith.specs.Cases.{by-ltb}
 use Rattle.audits.specs.laws.LoadLaws.{Loaded, loaded}
 use Rattle.manager.specs.Load.{loadedManager}
 use Rattle.plan.specs.Questions.{loadNumber}
 use Rattle.session.specs.PlanText.{planText, openText}
 use Rattle.session.specs.laws.PlanTextLaws.{number-some}
-use Rattle.texts.specs.Texts.{numberLine, questionLine}
 
 -- it is loaded
 silent-accepted : (l : List ℕ) → length (planText l) ≡ 0 → loadNumber l ≡ 0

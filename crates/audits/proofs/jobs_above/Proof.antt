@@ -1,6 +1,6 @@
 use Prim.Native.Nat.{_+_, _-_, _≤_, min}
 use lib.ListN.{length}
-use mathlib.Core.Path.{_≡_, refl, sym, ap, _∙_}
+use mathlib.Core.Path.{_≡_, ap, _∙_}
 use native.Mathlib.Omega.{arith}
 use borrow.Author.Needs.{needs}
 use Rattle.audits.specs.Audits.{jobsIn}

@@ -1,22 +1,19 @@
 -- What is known of one job.
-use Prim.Native.Nat.{ℕ, _+_, _≤_, _<_, min}
-use mathlib.Core.Bool.{Bool, true, false, _||_}
+use Prim.Native.Nat.{ℕ, _≤_, _<_}
+use mathlib.Core.Bool.{Bool, true, false}
 use mathlib.Core.List.{List}
-use mathlib.Core.Path.{_≡_, refl, sym, ap, _∙_}
+use mathlib.Core.Path.{_≡_, sym, ap, _∙_}
 use native.Mathlib.Omega.{arith}
 use borrow.Author.Tests.{eq-eqb, ne-eqb}
-use lib.Dec.{eqb}
 use lib.ListN.{getD}
-use Rattle.arith.specs.Cases.{pick, by-bool}
+use Rattle.arith.specs.Cases.{by-bool}
 use Rattle.figures.specs.Figures.{boundsOf}
 use Rattle.figures.specs.declared.Bounds.{Bounds}
-use Rattle.job_rows.specs.declared.JobFacts.{JobFacts}
 use Rattle.manager.specs.Calls.{jobNumberOf}
 use Rattle.manager.specs.declared.Manager.{Manager}
 use Rattle.memory.specs.declared.Task.{Task}
 use Rattle.rules.specs.statements.JobSets.{AreaJob, isAdmissible, mayRankAbove, jobAbove, isOn, jobLocks}
 use Rattle.segment.specs.Segments.{isLock, segmentAt}
-use Rattle.segment.specs.declared.Segment.{Segment}
 use Rattle.audits.specs.Audits.{refusedFacts, factsOf}
 use Rattle.audits.specs.declared.Table.{Table}
 use Rattle.audits.specs.laws.LoadLaws.{Loaded}

@@ -1,6 +1,6 @@
 use lib.Dec.{eqb}
 use native.Mathlib.Omega.{arith}
-use Prim.Native.Nat.{_+_, _-_, _*_, _≤_}
+use Prim.Native.Nat.{_-_, _*_, _≤_}
 use mathlib.Core.Path.{_≡_, refl, sym, _∙_}
 use Rattle.figures.specs.laws.BoundLaws.{boundsAfter, allBounds, more-few, device-few, segment-some, segment-fits, next-cut, bounds-turn, bounds-end}
 use Rattle.segment.specs.Segments.{segmentAt, segmentsFrom}

@@ -5,12 +5,12 @@ use mathlib.Core.List.{List, [], _∷_}
 use mathlib.Core.Path.{_≡_, refl, sym, ap, _∙_}
 use native.Mathlib.Nat.{mul-le-mul, add-zero}
 use native.Mathlib.Omega.{arith}
-use borrow.Author.Tests.{eq-eqb, ne-eqb}
+use borrow.Author.Tests.{ne-eqb}
 use lib.Dec.{eqb}
 use lib.ListN.{length, getD}
-use Rattle.arith.specs.Cases.{pick, by-bool, by-eqb}
+use Rattle.arith.specs.Cases.{pick, by-eqb}
 use Rattle.memory.specs.declared.Task.{Task}
-use Rattle.plan.specs.Questions.{deviceOf, deviceEnd}
+use Rattle.plan.specs.Questions.{deviceOf}
 use Rattle.plan.specs.declared.records.Plan.{Plan}
 use Rattle.rules.specs.Layout.{layoutOf, mostBelow}
 use Rattle.rules.specs.laws.Requests.{device-end}
@@ -18,7 +18,7 @@ use Rattle.segment.specs.Segments.{isLock, spanMost, segmentAt, segmentsFrom, s
 use Rattle.segment.specs.declared.Segment.{Segment}
 use Rattle.segment.specs.laws.CutLaws.{Cut, at-end, segments-end}
 use Rattle.segment.specs.laws.SegmentLaws.{Good, segments-next, segment-good, segment-device}
-use Rattle.figures.specs.Figures.{Audited, segmentsOf, spansOf, boundsOf}
+use Rattle.figures.specs.Figures.{Audited, boundsOf}
 use Rattle.figures.specs.declared.Bounds.{Bounds}
 
 abbrev pub noBounds : Bounds

@@ -1,6 +1,5 @@
 use native.Mathlib.Omega.{arith}
 use mathlib.Core.Path.{_≡_, refl}
-use borrow.Author.Tests.{eq-eqb, ne-eqb}
 use borrow.Author.Needs.{needs}
 use Rattle.job_rows.proofs.foot_row.Statement.{statement}
 use Rattle.job_rows.proofs.foot_row.Tie as tie

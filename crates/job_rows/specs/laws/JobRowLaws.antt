@@ -1,19 +1,19 @@
 -- The rows of a job, one at a time.
 use Prim.Native.Nat.{ℕ, suc, _+_, _≤_, _<_}
 use mathlib.Core.Bool.{true, false, true≢false, false≢true}
-use mathlib.Core.List.{List, [], _∷_, _++_}
-use mathlib.Core.Path.{_≡_, refl, sym, ap, _∙_}
+use mathlib.Core.List.{List, [], _∷_}
+use mathlib.Core.Path.{_≡_, refl, ap}
 use native.Mathlib.Numerals.{add-one}
 use native.Mathlib.Omega.{arith}
 use borrow.Author.Tests.{eq-eqb, ne-eqb}
 use lib.Dec.{ltb, eqb}
-use lib.ListN.{length, getD, drop}
+use lib.ListN.{length, getD}
 use lib.Seq.{drop-cons}
 use Rattle.arith.specs.Cases.{pick, by-ltb, by-eqb}
 use Rattle.figures.specs.Figures.{Audited}
 use Rattle.figures.specs.Ranges.{rangesOf}
 use Rattle.figures.specs.declared.Range.{Range}
-use Rattle.figures.specs.laws.BoundLaws.{segment-some, segment-fits, next-cut, next-segments}
+use Rattle.figures.specs.laws.BoundLaws.{segment-some, next-cut, next-segments}
 use Rattle.memory.specs.declared.Task.{Task}
 use Rattle.plan.specs.declared.records.Plan.{Plan}
 use Rattle.rows.specs.Rows.{rowText, rowsText}
