@@ -5,10 +5,14 @@
 ghost use mathlib.Core.Path.{_≡_};
 ghost use Prim.Native.Nat.{_≤_};
 ghost use lib.ListN.{length};
+ghost use mathlib.Core.Bool.{true};
+ghost use Rattle.audits.specs.Audits.{jobsIn};
 ghost use Rattle.audits.specs.laws.LoadLaws.{Loaded};
+ghost use Rattle.audits.specs.laws.TableLaws.{Tabled};
 ghost use Rattle.job_rows.specs.Cursors.{Fits};
 ghost use Rattle.job_rows.specs.declared.Cursor.the-variants.{Head};
 ghost use Rattle.plan.specs.WellFormed.{WellFormed};
+ghost use Rattle.session.specs.AllLines.{linesOf};
 use audits::JobLine;
 use audits::Table;
 use audits::job_facts;
@@ -98,9 +102,10 @@ fn write_line(manager: Manager, table: Table, job: JobLine, out: &mut [u8]) -> b
     }
 }
 
-// Writes what is said of each line, and answers how many bytes of the input were audited: all, unless a write failed.
+// Writes what is said of each line, and answers how many bytes of the input were audited: all, unless a write failed. The table is that of the same lines.
 fn write_lines(manager: Manager, table: Table, input: &[u8], out: &mut [u8]) -> usize
     requires { ⌜ Loaded manager ⌝ }
+    requires { ⌜ Tabled manager (jobsIn (manager .plan .«device_count») (linesOf true (now input))) table ⌝ }
     ensures { λ r. ⌜ r ≤ length (now (input .entry)) ⌝ }
 {
     let mut at = 0;

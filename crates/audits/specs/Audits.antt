@@ -1,11 +1,11 @@
--- The audit of a plan and a list of jobs: which jobs the lines of the input are, and what is said of each.
+-- The audit of a plan and a list of jobs: which jobs the lines of the input are, and what is known of each.
 use Prim.Native.Nat.{ℕ, min}
 use mathlib.Core.Bool.{false}
-use mathlib.Core.List.{List, [], _∷_, _++_}
+use mathlib.Core.List.{List, [], _∷_}
 use lib.Dec.{eqb}
 use Rattle.arith.specs.Cases.{pick}
 use Rattle.figures.specs.Figures.{boundsOf}
-use Rattle.job_rows.specs.JobRows.{tooLarge, jobRows}
+use Rattle.job_rows.specs.JobRows.{tooLarge}
 use Rattle.job_rows.specs.declared.JobFacts.{JobFacts}
 use Rattle.lines.specs.Lines.{lineOf}
 use Rattle.lines.specs.declared.Line.{Line}
@@ -13,7 +13,6 @@ use Rattle.lines.specs.declared.Line.the-variants.{Unreadable, Call, Info, Roun
 use Rattle.manager.specs.Calls.{jobNumberOf}
 use Rattle.manager.specs.declared.Manager.{Manager}
 use Rattle.memory.specs.declared.Task.{Task}
-use Rattle.plan_rows.specs.PlanRows.{planRows}
 use Rattle.rows.specs.Rows.{rowOf}
 use Rattle.rows.specs.declared.Form.the-variants.{OfJob}
 use Rattle.rows.specs.declared.JobForm.the-variants as Head
@@ -70,15 +69,3 @@ factsOf m js a t = pick (eqb (jobNumberOf m a t) 0) (acceptedFacts m js a t) (re
 -- "?" for a line that is no job
 abbrev pub unreadableRow : Row
 unreadableRow = rowOf (OfJob Head.Unreadable) 0 0 0 0 0 0 0 0
-
-abbrev pub rowsOfJob : Manager → List AreaJob → JobLine → List Row
-rowsOfJob m js NoJob = unreadableRow ∷ []
-rowsOfJob m js (Job a t) = jobRows (m .plan) a t (factsOf m js a t)
-
-unfoldable pub rowsOfLines : Manager → List AreaJob → List (List ℕ) → List Row
-rowsOfLines m js [] = []
-rowsOfLines m js (l ∷ ls) = rowsOfJob m js (jobIn (m .plan .«device_count») l) ++ rowsOfLines m js ls
-
--- the whole audit of the manager of an accepted load: its plan, and each line, with the jobs of all lines as the list
-abbrev pub auditRows : Manager → List (List ℕ) → List Row
-auditRows m ls = planRows (m .plan) ++ rowsOfLines m (jobsIn (m .plan .«device_count») ls) ls
