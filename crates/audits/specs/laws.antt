@@ -2,3 +2,4 @@ pub mod LoadLaws
 pub mod LineLaws
 pub mod TableLaws
 pub mod JobLaws
+pub mod FillLaws

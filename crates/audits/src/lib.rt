@@ -13,6 +13,9 @@ ghost use Rattle.audits.specs.Audits.{jobOfCall, jobOfLine, jobsIn, fact
 ghost use Rattle.audits.specs.laws.LoadLaws.{Loaded};
 ghost use Rattle.audits.specs.laws.LineLaws.{NextJob};
 ghost use Rattle.audits.specs.laws.TableLaws.{Tabled};
+
+pub mod fill;
+
 use figures::Bounds;
 use figures::job_bounds;
 use job_rows::JobFacts;
@@ -231,7 +234,6 @@ pub fn unreadable_row() -> Row
 pub fn job_facts(manager: Manager, table: Table, area: usize, task: Task) -> JobFacts
     requires { ⌜ Loaded manager ⌝ }
     ensures { λ r. ⌜ ((js : List AreaJob) → Tabled manager js table → r ≡ factsOf manager js area task) ⌝ }
-    ensures { λ r. ⌜ r .number ≡ jobNumberOf manager area task ⌝ }
 {
     let number = number_of(manager, area, task);
     if 0 < number {

@@ -14,7 +14,7 @@ number-of-requires : tie.Need-number-of-requires
 number-of-requires c κs = search needs
 
 returns : tie.Need-returns
-returns c = let a = c .before .before .args in ((λ js s. facts-refused (a .manager) (c .before .before .pre) (a .area) (a .task) (c .before .number-of .result) (c .before .number-of .ensures) js (c .if1 .taken)), c .before .number-of .ensures)
+returns c = let a = c .before .before .args in λ js s. facts-refused (a .manager) (c .before .before .pre) (a .area) (a .task) (c .before .number-of .result) (c .before .number-of .ensures) js (c .if1 .taken)
 
 job-bounds-requires : tie.Need-job-bounds-requires
 job-bounds-requires c κs = let a = c .before .before .args in audited (a .manager) (c .before .before .pre) (a .area) (a .task) (sym (c .before .number-of .ensures) ∙ omega arith)
@@ -29,7 +29,7 @@ array-read-t9 : tie.Need-array-read-t9
 array-read-t9 c = let a = c .before .before .before .before .before .args in let j = audited (a .manager) (c .before .before .before .before .before .pre) (a .area) (a .task) (sym (c .before .before .before .before .number-of .ensures) ∙ omega arith) in omega (arith, j .job .known, j .plan .area-most)
 
 returns-2 : tie.Need-returns-2
-returns-2 c = let a = c .before .before .before .before .before .args in let j = audited (a .manager) (c .before .before .before .before .before .pre) (a .area) (a .task) (sym (c .before .before .before .before .number-of .ensures) ∙ omega arith) in ((λ js s. facts-accepted (a .manager) (c .before .before .before .before .before .pre) (a .area) (a .task) (c .before .before .before .before .number-of .result) (c .before .before .before .before .number-of .ensures) js (a .table) s (omega (arith, j .job .known, j .plan .area-most)) (c .before .before .before .if1 .left) (c .before .before .job-bounds .result) (c .before .before .job-bounds .ensures)), omega (arith, c .before .before .before .before .number-of .ensures, c .before .before .before .if1 .left))
+returns-2 c = let a = c .before .before .before .before .before .args in let j = audited (a .manager) (c .before .before .before .before .before .pre) (a .area) (a .task) (sym (c .before .before .before .before .number-of .ensures) ∙ omega arith) in λ js s. facts-accepted (a .manager) (c .before .before .before .before .before .pre) (a .area) (a .task) (c .before .before .before .before .number-of .result) (c .before .before .before .before .number-of .ensures) js (a .table) s (omega (arith, j .job .known, j .plan .area-most)) (c .before .before .before .if1 .left) (c .before .before .job-bounds .result) (c .before .before .job-bounds .ensures)
 
 pub job-facts-spec : {M : Type 1} → statement M
 job-facts-spec =

@@ -10,12 +10,8 @@ use Rattle.arith.specs.Cases.{by-leb}
 use Rattle.lines.specs.Fields.{cutAt, cutFrom, isLast}
 use Rattle.lines.specs.laws.FieldLaws.{word, fields-all, fields-past, more-fields}
 use Rattle.session.specs.AllLines.{linesIn, linesOf}
-use Rattle.audits.specs.Audits.{jobIn}
+use Rattle.audits.specs.Audits.{jobIn, linesFrom}
 use Rattle.audits.specs.declared.JobAt.{JobAt}
-
--- the lines from byte `at` on
-abbrev pub linesFrom : List ℕ → ℕ → List (List ℕ)
-linesFrom input at = linesIn true (cutFrom 10 input at)
 
 -- the job of the first of them
 pub record NextJob (input : List ℕ) (at devices : ℕ) (r : JobAt) : Type 0 where

@@ -12,11 +12,11 @@ use Rattle.manager.specs.declared.Manager.{Manager}
 use Rattle.memory.specs.declared.Task.{Task}
 use Rattle.plan.specs.declared.records.Plan.{Plan}
 use Rattle.rules.specs.statements.JobSets.{AreaJob, jobAbove, jobsAbove, jobLocks, anyLocks}
-use Rattle.audits.specs.Audits.{jobsIn}
+use Rattle.audits.specs.Audits.{jobsIn, linesFrom}
 use Rattle.audits.specs.declared.JobAt.{JobAt}
 use Rattle.audits.specs.declared.JobLine.the-variants.{NoJob, Job}
 use Rattle.audits.specs.declared.Table.{Table}
-use Rattle.audits.specs.laws.LineLaws.{linesFrom, NextJob, lines-none}
+use Rattle.audits.specs.laws.LineLaws.{NextJob, lines-none}
 
 -- the figures of each area
 abbrev pub Tabled : Manager → List AreaJob → Table → Type 0

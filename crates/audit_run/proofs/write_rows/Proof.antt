@@ -1,26 +1,31 @@
-use Prim.Native.Nat.{_≤_}
 use lib.ListN.{length}
 use mathlib.Core.Path.{_≡_, refl}
 use native.Mathlib.Omega.{arith}
 use borrow.Author.Needs.{needs}
-use Rattle.audit_run.proofs.write_plan.Statement.{statement}
-use Rattle.audit_run.proofs.write_plan.Tie as tie
-use Rattle.audit_run.proofs.write_plan.Reads as reads
-use Rattle.audit_run.proofs.write_plan.Lts as lts
+use Rattle.audits.specs.laws.FillLaws.{PlaceFits}
+use Rattle.audit_run.proofs.write_rows.Statement.{statement}
+use Rattle.audit_run.proofs.write_rows.Tie as tie
+use Rattle.audit_run.proofs.write_rows.Reads as reads
+use Rattle.audit_run.proofs.write_rows.Lts as lts
 use Rattle.audit_run.proofs.print.Reads as print-reads
-use Rattle.plan_rows.proofs.print_plan.Reads as print-plan-reads
+use Rattle.audits.proofs.fill.Place.first.Reads as first-reads
+use Rattle.audits.proofs.fill.fill.Reads as fill-reads
+use Rattle.audits.proofs.fill.is_finished.Reads as is-finished-reads
 
 abbrev Inv-loop : tie.InvT-loop
-Inv-loop plan out₀ next₀ turns₀ out next turns = (next ≤ 300) × (length out ≡ length out₀)
+Inv-loop manager table input out₀ place₀ turns₀ out place turns = PlaceFits manager place × (length out ≡ length out₀)
 
 abbrev μ-loop : tie.MeasureT-loop
-μ-loop plan out₀ next₀ turns₀ out next turns = turns
+μ-loop manager table input out₀ place₀ turns₀ out place turns = turns
+
+first-requires : tie.Need-first-requires Inv-loop μ-loop
+first-requires c κs = search needs
 
 loop-holds : tie.Need-loop-holds Inv-loop μ-loop
-loop-holds c = (omega arith, refl)
+loop-holds c = (rw (c .first .ensures) (record { rows = omega arith; line = refl }), refl)
 
-print-plan-requires : tie.Need-print-plan-requires Inv-loop μ-loop
-print-plan-requires c κs = search needs
+fill-requires : tie.Need-fill-requires Inv-loop μ-loop
+fill-requires c κs = search needs
 
 print-requires : tie.Need-print-requires Inv-loop μ-loop
 print-requires c κs = search needs
@@ -30,6 +35,9 @@ same-length c = search needs
 
 returns : tie.Need-returns Inv-loop μ-loop
 returns c = search needs
+
+is-finished-requires : tie.Need-is-finished-requires Inv-loop μ-loop
+is-finished-requires c κs = search needs
 
 same-length-2 : tie.Need-same-length-2 Inv-loop μ-loop
 same-length-2 c = search needs
@@ -52,17 +60,19 @@ same-length-3 c = search needs
 returns-3 : tie.Need-returns-3 Inv-loop μ-loop
 returns-3 c = search needs
 
-pub write-plan-spec : {M : Type 1} → statement M
-write-plan-spec =
+pub write-rows-spec : {M : Type 1} → statement M
+write-rows-spec =
     tie.close
     (tie.spec
     Inv-loop
     μ-loop
+    first-requires
     loop-holds
-    print-plan-requires
+    fill-requires
     print-requires
     same-length
     returns
+    is-finished-requires
     same-length-2
     returns-2
     sub-turns
