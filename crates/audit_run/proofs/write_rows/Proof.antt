@@ -2,7 +2,7 @@ use lib.ListN.{length}
 use mathlib.Core.Path.{_≡_, refl}
 use native.Mathlib.Omega.{arith}
 use borrow.Author.Needs.{needs}
-use Rattle.audits.specs.laws.FillLaws.{PlaceFits}
+use Rattle.audits.specs.Filled.{PlaceFits}
 use Rattle.audit_run.proofs.write_rows.Statement.{statement}
 use Rattle.audit_run.proofs.write_rows.Tie as tie
 use Rattle.audit_run.proofs.write_rows.Reads as reads

@@ -6,10 +6,9 @@ use mathlib.Core.Logic.{_⊎_, ⊎-elim}
 use mathlib.Core.Path.{_≡_, refl, sym, ap, subst, _∙_}
 use native.Mathlib.Omega.{arith}
 use borrow.Author.Tests.{leb-true}
-use lib.Dec.{ltb, leb}
 use lib.ListN.{length, take, length-append}
-use Rattle.arith.specs.Cases.{pick, by-bool, by-ltb, by-eqb}
-use Rattle.job_rows.specs.Cursors.{isEnd, Fits}
+use Rattle.arith.specs.Cases.{by-bool, by-ltb, by-eqb}
+use Rattle.job_rows.specs.Cursors.{isEnd}
 use Rattle.job_rows.specs.declared.Cursor.{Cursor}
 use Rattle.job_rows.specs.declared.Cursor.the-variants.{Head, End}
 use Rattle.job_rows.specs.declared.JobFacts.{JobFacts}
@@ -28,6 +27,7 @@ use Rattle.rules.specs.statements.JobSets.{AreaJob}
 use Rattle.session.specs.AllLines.{linesOf}
 use Rattle.texts.specs.Appended.{Appended}
 use Rattle.audits.specs.Audits.{jobsIn, refusedFacts, factsOf, unreadableRow, linesFrom, rowsOfJob, rowsOfLines, auditRows, lineLeft, auditLeft}
+use Rattle.audits.specs.Filled.{firstPlace, isFinished, LineFits, PlaceFits, FilledTo}
 use Rattle.audits.specs.declared.JobAt.{JobAt}
 use Rattle.audits.specs.declared.JobLine.{JobLine}
 use Rattle.audits.specs.declared.JobLine.the-variants.{NoJob, Job}
@@ -41,33 +41,12 @@ abbrev pub lineFacts : Manager → List AreaJob → JobLine → JobFacts
 lineFacts m js NoJob = refusedFacts 0
 lineFacts m js (Job a t) = factsOf m js a t
 
--- before the first row
-abbrev pub firstPlace : Place
-firstPlace = record { rows = 0; job = NoJob; facts = refusedFacts 0; cursor = End; next = 0 }
-
--- the line's rows can be gone on with
-abbrev pub LineFits : Plan → JobLine → JobFacts → Cursor → Type 0
-LineFits p NoJob f c = true ≡ true
-LineFits p (Job a t) f c = Fits p a t f c
-
 -- the rows of a line printed from a cursor on: it stops early only where the next row may not fit
 pub record LineDone (p : Plan) (j : JobLine) (f : JobFacts) (c : Cursor) (before after : List ℕ) (at : ℕ) (r : Printed) : Type 0 where
   pub written : Written before after at (r .end) (rowsText (lineLeft p j f c)) (rowsText (lineLeft p j f (r .cursor)))
   pub fits : LineFits p j f (r .cursor)
   pub few : r .end ≤ length after
   pub full : isEnd (r .cursor) ≡ false → length after < r .end + 3000
-
-pub record PlaceFits (m : Manager) (s : Place) : Type 0 where
-  pub rows : s .rows ≤ 300
-  pub line : LineFits (m .plan) (s .job) (s .facts) (s .cursor)
-
--- the audit of the input printed from a place on: what stands in the buffer and the rows left make up the rows there were; it stops before the end only where the next row may
--- not fit
-pub record FilledTo (m : Manager) (input : List ℕ) (s : Place) (before after : List ℕ) (at : ℕ) (r : Filled) : Type 0 where
-  pub written : Written before after at (r .end) (rowsText (auditLeft m input s)) (rowsText (auditLeft m input (r .place)))
-  pub fits : PlaceFits m (r .place)
-  pub few : r .end ≤ length after
-  pub full : (auditLeft m input (r .place) ≡ [] → ⊥) → length after < r .end + 3000
 
 -- at the start all of the audit is left
 pub all-left : (m : Manager) (input : List ℕ) → auditLeft m input firstPlace ≡ auditRows m (linesOf true input)
@@ -243,11 +222,7 @@ module _ (m : Manager) (input : List ℕ) (s : Place) (f : PlaceFits m s) (befor
       let others = subst (λ l. Written after last (r .end) (q .end) (rowsText l) (rowsText (auditLeft m input (q .place)))) (lines-left m input there e) (t .written) in
       record { written = written-on (written-on first line) others; fits = t .fits; few = t .few; full = t .full }
 
--- nothing is left of an input of n bytes
-abbrev pub isFinished : Place → ℕ → Bool
-isFinished s n = pick (ltb (s .rows) 300) false (pick (isEnd (s .cursor)) (leb n (s .next)) false)
-
--- so it is
+-- what is finished has no row left
 pub finished-all : (m : Manager) (input : List ℕ) (s : Place) → PlaceFits m s → isFinished s (length input) ≡ true → auditLeft m input s ≡ []
 finished-all m input s f e =
     by-ltb (s .rows) 300
