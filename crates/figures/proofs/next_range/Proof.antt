@@ -70,7 +70,7 @@ returns-2 : tie.Need-returns-2 Inv-loop μ-loop
 returns-2 c =
     let a = c .before .before .before .before .before .before .before .before .before .before .args in
     let l = c .before .before .before .before .before .before .before .loop in (
-      l .inv .3 ∙ range-gap (a .plan) (a .area) (a .task) (c .before .before .before .before .before .before .before .before .before .before .pre .0) (l .next) (l .inv .2) (c .before .before .before .before .before .if1 .taken) (c .before .before .before .before .segment-at2 .result) (c .before .before .before .before .segment-at2 .ensures) _ (c .if3 .taken),
+      l .inv .3 ∙ range-gap (a .plan) (a .area) (a .task) (c .before .before .before .before .before .before .before .before .before .before .pre .0) (l .next) (l .inv .2) (c .before .before .before .before .before .if1 .taken) (c .before .before .before .before .segment-at2 .result) (c .before .before .before .before .segment-at2 .ensures) _ (λ e. omega (arith, c .if3 .taken, e)),
       (
         (l .inv .2, l .inv .0, l .inv .1),
         (l .inv .4, l .inv .5),
