@@ -1,4 +1,5 @@
 // Questions 12 to 15 in code: a range of an area.
+#![tactic(auto)]
 ghost use Rattle.std.specs.Prelude.{◌≡◌, true, ◌&&◌, ◌+◌, ◌-◌, ◌≤◌, ◌<◌, leb};
 ghost use Rattle.arith.specs.FirstNo.{first_no};
 ghost use Rattle.arith.specs.Multiples.{multiple};
@@ -16,7 +17,7 @@ use plan::records::{AreaRecord, Plan, SubAreaRecord};
 use segment::{Found, index_of, is_lock, locate, map_address, segment_at, segment_found, unit_of};
 
 // The answer to a job and, where it is accepted, how many retries its first segment may take: its questions have found that segment. Where it is refused that is 0.
-#[derive(Drop)]
+#[derive(Clone, Copy)]
 pub struct JobAnswer {
     pub answer: Admission,
     pub retries: u8,

@@ -1,4 +1,5 @@
 // The first half of a round: a device with a running request takes its answer. And what its answer wears.
+#![tactic(auto)]
 ghost use Rattle.std.specs.Prelude.{◌≡◌, ◌≤◌};
 ghost use Rattle.rules.specs.Machine.{doing};
 ghost use Rattle.answers.specs.laws.Answers.{Lent, turn_area, turn_state, turn_due, turn_memory};
@@ -14,7 +15,7 @@ use state::{Area, Device, DeviceState, Job};
 use wear::{Worn, sectors_in};
 
 // What a device's answer makes of the device, and of the area that its request is for.
-#[derive(Drop)]
+#[derive(Clone, Copy)]
 pub struct Turn {
     pub area: Area,
     pub due: Segment,

@@ -19,7 +19,7 @@ use plan_rows::print_plan;
 use rows::print_row;
 
 // Where the audit is: at a place of the plan's rows; in the rows of a line; the next line begins at byte `next`.
-#[derive(Drop)]
+#[derive(Clone, Copy)]
 pub struct Place {
     pub rows: usize,
     pub job: JobLine,
@@ -127,7 +127,7 @@ fn facts_of(manager: Manager, table: Table, job: JobLine) -> JobFacts
 }
 
 // Where the audit is when the buffer is full, or at the end, and where the text ends.
-#[derive(Drop)]
+#[derive(Clone, Copy)]
 pub struct Filled {
     pub place: Place,
     pub end: usize,

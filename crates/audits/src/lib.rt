@@ -1,4 +1,5 @@
 // The audit of a plan and a list of jobs: the jobs of the lines, and what is known of each.
+#![tactic(auto)]
 ghost use Rattle.std.specs.Prelude.{true, false, List, ◌≡◌, ◌+◌, ◌<◌, min, length};
 ghost use Rattle.job_rows.specs.JobRows.{too_large};
 ghost use Rattle.manager.specs.Calls.{job_number_of};
@@ -25,7 +26,7 @@ use segment::{is_lock, segment_at};
 use session::play::{PlainCall, plain_of};
 
 // A line of the list: a job of an area, or none.
-#[derive(Drop)]
+#[derive(Clone, Copy)]
 pub enum JobLine {
     NoJob,
     Job { area: u32, task: Task },
@@ -58,7 +59,7 @@ fn job_of_line(line: Line) -> JobLine
 }
 
 // The job of a line, and where the next line begins.
-#[derive(Drop)]
+#[derive(Clone, Copy)]
 pub struct JobAt {
     pub job: JobLine,
     pub next: usize,
@@ -189,7 +190,7 @@ pub fn any_locks(manager: Manager, input: &[u8], a: usize) -> bool
 }
 
 // What the list adds to the wait of each area's jobs.
-#[derive(Drop)]
+#[derive(Clone, Copy)]
 pub struct Table {
     pub above: [u64; 8],
     pub locks: [bool; 8],

@@ -3,6 +3,7 @@
 //
 // What is done with bytes once they are in a buffer is an equation: what the lines of the input leave of manager, image and store, and what is kept of a begun line. Which bytes a read
 // brings, and whether a write took its bytes, is for the C library to say, whose contracts bound counts alone: each function that reads or writes says at its contract what that leaves open.
+#![tactic(auto)]
 ghost use Rattle.std.specs.Prelude.{true, false, [], ◌≡◌, ◌≤◌, length, take, drop, replicate};
 ghost use Rattle.session.specs.AllLines.{bench_of, after_lines, lines_of, PlayedTo};
 ghost use Rattle.bench_run.specs.Input.{TakenInput, TakenWhole};
@@ -21,7 +22,7 @@ fn print(out: &[u8], count: usize) -> bool
 }
 
 // The next manager, how much of the input was used, and whether the answers could be written.
-#[derive(Drop)]
+#[derive(Clone, Copy)]
 struct Answered {
     manager: Manager,
     used: usize,
@@ -72,7 +73,7 @@ fn answer_lines(
 }
 
 // The manager, the length of the begun line in front of the input, and whether there may be more input.
-#[derive(Drop)]
+#[derive(Clone, Copy)]
 struct Turn {
     manager: Manager,
     kept: usize,

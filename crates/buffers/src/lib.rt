@@ -1,4 +1,5 @@
 // The bytes that the bench program starts from, and what it keeps of them between two reads.
+#![tactic(auto)]
 ghost use Rattle.std.specs.Prelude.{◌++◌, ◌≡◌, ◌-◌, ◌≤◌, min, length, take, drop, replicate};
 ghost use Rattle.texts.specs.Texts.{question_line};
 

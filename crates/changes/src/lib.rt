@@ -1,4 +1,5 @@
 // What a call on an area changes, and what the calls by value and those in place share: the area is asked for, a job begun, a job cancelled.
+#![tactic(auto)]
 ghost use Rattle.std.specs.Prelude.{◌≡◌, ◌≤◌, ◌<◌};
 ghost use Rattle.arith.specs.FirstNo.{first_no};
 ghost use Rattle.memory.specs.Numbers.{admission_number};
@@ -15,7 +16,7 @@ use plan::records::Plan;
 use state::{Area, Device};
 
 // What a call changes: one area, one device, and the ages. What it leaves is as it was.
-#[derive(Drop)]
+#[derive(Clone, Copy)]
 pub struct Change {
     pub area_number: usize,
     pub area: Area,
@@ -44,7 +45,7 @@ impl Change {
 }
 
 // What a call on an area goes by: question 9, and the area's entry with its place.
-#[derive(Drop)]
+#[derive(Clone, Copy)]
 pub struct AskedArea {
     pub sound: bool,
     pub number: usize,

@@ -1,4 +1,5 @@
 // The close of a round: each job that was pending before it and still is adds 1 to one count.
+#![tactic(auto)]
 ghost use Rattle.std.specs.Prelude.{◌≡◌};
 ghost use Rattle.plan.specs.Questions.{area_of};
 ghost use Rattle.rules.specs.Machine.{wait_behind, wait_on};
@@ -11,7 +12,7 @@ use plan::records::AreaRecord;
 use state::{Area, DeviceState, Waits};
 
 // What a pending job waits for.
-#[derive(Drop)]
+#[derive(Clone, Copy)]
 pub enum Wait {
     Own,
     Above,

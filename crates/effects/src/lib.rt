@@ -1,4 +1,5 @@
 // What a request's answer does to image and store.
+#![tactic(auto)]
 ghost use Rattle.std.specs.Prelude.{◌≡◌, ◌+◌, ◌≤◌, length};
 ghost use Rattle.arith.specs.Parts.{put};
 ghost use Rattle.memory.specs.declared.JobType.TheVariants.{Compare};
@@ -11,7 +12,7 @@ use transfer::{
 };
 
 // What an answer comes to.
-#[derive(Drop)]
+#[derive(Clone, Copy)]
 pub enum Outcome {
     GoesOn,
     Finished,

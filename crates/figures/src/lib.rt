@@ -1,8 +1,9 @@
 // The auditor's figures of a job: the bounds of demand 3, and the image bytes that it reaches.
+#![tactic(auto)]
 ghost use Rattle.std.specs.Prelude.{◌∷◌, ◌≡◌, ◌+◌, ◌*◌, ◌≤◌, ◌<◌};
 ghost use Rattle.plan.specs.Questions.{device_of};
 ghost use Rattle.segment.specs.Segments.{span_most, segment_at, segments_from};
-ghost use Rattle.segment.specs.laws.CutLaws.{Cut};
+ghost use Rattle.segment.proofs.laws.CutLaws.{Cut};
 ghost use Rattle.figures.specs.Figures.{Audited, bounds_of, factor_of};
 ghost use Rattle.figures.specs.Ranges.{ranges_of};
 ghost use Rattle.figures.specs.laws.BoundLaws.{bounds_more, all_bounds};
@@ -12,7 +13,7 @@ use plan::records::{DeviceRecord, Plan};
 use segment::{Segment, is_lock, segment_at};
 
 // What a job has at most as own and below, and how many segments and stretches it has.
-#[derive(Drop)]
+#[derive(Clone, Copy)]
 pub struct Bounds {
     pub own: u64,
     pub below: u64,
@@ -21,7 +22,7 @@ pub struct Bounds {
 }
 
 // Image bytes of a device, one behind the other.
-#[derive(Drop)]
+#[derive(Clone, Copy)]
 pub struct Range {
     pub device: u8,
     pub start: u64,
@@ -150,7 +151,7 @@ pub fn job_bounds(plan: Plan, area: usize, task: Task) -> Bounds
 }
 
 // The first range from byte x of a job on, and where the next one begins.
-#[derive(Drop)]
+#[derive(Clone, Copy)]
 pub struct RangeStep {
     pub range: Range,
     pub next: u32,

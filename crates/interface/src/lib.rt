@@ -1,4 +1,5 @@
 // What C and Rust see of a manager: structs in C's layout, with the papers' number in the place of each enum.
+#![tactic(auto)]
 ghost use Rattle.std.specs.Prelude.{◌≡◌, ◌≤◌, length, take};
 ghost use Rattle.effects.specs.Effects.{memory_of};
 ghost use Rattle.session.specs.Fold.{played_all};
@@ -15,7 +16,7 @@ use session::play_all;
 use state::{Area, Device, DeviceState, Job, Suspended, Waits};
 
 #[repr(C)]
-#[derive(Drop)]
+#[derive(Clone, Copy)]
 pub struct JobView {
     pub kind: u8,
     pub status: u8,
@@ -27,7 +28,7 @@ pub struct JobView {
 }
 
 #[repr(C)]
-#[derive(Drop)]
+#[derive(Clone, Copy)]
 pub struct AreaView {
     pub job: JobView,
     pub waits: Waits,
@@ -35,7 +36,7 @@ pub struct AreaView {
 
 // state: 0 nothing runs, 1 runs for the area, 2 locked for the area.
 #[repr(C)]
-#[derive(Drop)]
+#[derive(Clone, Copy)]
 pub struct StateView {
     pub state: u8,
     pub area: u8,
@@ -44,14 +45,14 @@ pub struct StateView {
 
 // state: 0 nothing is suspended, 1 the erase of the area.
 #[repr(C)]
-#[derive(Drop)]
+#[derive(Clone, Copy)]
 pub struct DeviceView {
     pub does: StateView,
     pub suspended: StateView,
 }
 
 #[repr(C)]
-#[derive(Drop)]
+#[derive(Clone, Copy)]
 pub struct LoadView {
     pub number: u8,
     pub plan: Plan,
@@ -213,7 +214,7 @@ pub extern "C" fn luvdrog_load(bytes: &[u8]) -> LoadView
 
 // How many bytes of the input a session used, and how many it wrote.
 #[repr(C)]
-#[derive(Drop)]
+#[derive(Clone, Copy)]
 pub struct SessionView {
     pub used: usize,
     pub written: usize,
@@ -243,7 +244,7 @@ pub extern "C" fn luvdrog_session(
 
 // A session, and the queries of one area when it is over.
 #[repr(C)]
-#[derive(Drop)]
+#[derive(Clone, Copy)]
 pub struct SessionQueryView {
     pub session: SessionView,
     pub queries: QueryView,

@@ -9,21 +9,21 @@ use plan::records::Granularity;
 use state::Waits;
 
 #[repr(C)]
-#[derive(Drop)]
+#[derive(Clone, Copy)]
 pub struct StatusView {
     pub number: u8,
     pub status: u8,
 }
 
 #[repr(C)]
-#[derive(Drop)]
+#[derive(Clone, Copy)]
 pub struct ResultView {
     pub number: u8,
     pub result: JobResult,
 }
 
 #[repr(C)]
-#[derive(Drop)]
+#[derive(Clone, Copy)]
 pub struct ProcessedView {
     pub number: u8,
     pub processed: u32,
@@ -31,7 +31,7 @@ pub struct ProcessedView {
 
 // The request fields are 0 unless the area's request runs.
 #[repr(C)]
-#[derive(Drop)]
+#[derive(Clone, Copy)]
 pub struct JobInfoView {
     pub number: u8,
     pub kind: u8,
@@ -48,7 +48,7 @@ pub struct JobInfoView {
 
 // Of the sub-area that holds the address asked for.
 #[repr(C)]
-#[derive(Drop)]
+#[derive(Clone, Copy)]
 pub struct MemoryInfoView {
     pub number: u8,
     pub logical_start: LogicalAddress,
@@ -62,7 +62,7 @@ pub struct MemoryInfoView {
 
 // Of the sub-area that holds the address asked for: sectors erased, and the charge in millionths of what the sub-area endures.
 #[repr(C)]
-#[derive(Drop)]
+#[derive(Clone, Copy)]
 pub struct WearInfoView {
     pub number: u8,
     pub sum: u32,
@@ -71,7 +71,7 @@ pub struct WearInfoView {
 
 // Every query of one area, memory and wear info at one address.
 #[repr(C)]
-#[derive(Drop)]
+#[derive(Clone, Copy)]
 pub struct QueryView {
     pub status: StatusView,
     pub result: ResultView,

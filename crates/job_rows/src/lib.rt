@@ -1,4 +1,5 @@
 // The rows of a job: what the auditor's program says of it, a row at a time.
+#![tactic(auto)]
 ghost use Rattle.std.specs.Prelude.{true, false, [], ◌∷◌, ◌≡◌, ℕ, ◌+◌, ◌≤◌, ◌<◌, min, length};
 ghost use Rattle.figures.specs.Figures.{Audited};
 ghost use Rattle.rows.specs.Rows.{rows_text};
@@ -18,7 +19,7 @@ use segment::{Segment, is_lock, segment_at};
 
 // What is known of a job: the number that a fresh manager answers, its bounds, and of the jobs of the list what they add to its above and whether one locks a
 // device of its area.
-#[derive(Drop)]
+#[derive(Clone, Copy)]
 pub struct JobFacts {
     pub number: u8,
     pub bounds: Bounds,
@@ -28,7 +29,7 @@ pub struct JobFacts {
 
 // Where the rows of a job are: at its head, its refusal, the image range from a byte on, the window, the segment from a byte on behind so many segments and
 // stretches, the last of them on device `last`, at a row of the foot, or at the end.
-#[derive(Drop)]
+#[derive(Clone, Copy)]
 pub enum Cursor {
     Head,
     Refused,
@@ -45,7 +46,7 @@ pub enum Cursor {
 }
 
 // A row, and where the next one is.
-#[derive(Drop)]
+#[derive(Clone, Copy)]
 pub struct Step {
     pub row: Row,
     pub cursor: Cursor,
@@ -514,7 +515,7 @@ fn job_step(plan: Plan, area: usize, task: Task, facts: JobFacts, cursor: Cursor
 }
 
 // Where the rows are when the buffer is full, or at the end, and where the text ends.
-#[derive(Drop)]
+#[derive(Clone, Copy)]
 pub struct Printed {
     pub cursor: Cursor,
     pub end: usize,

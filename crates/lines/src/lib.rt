@@ -1,4 +1,5 @@
 // The lines of a session (document 01, "A printed session"): what a line asks for.
+#![tactic(auto)]
 ghost use Rattle.std.specs.Prelude.{◌≡◌, ◌≤◌, ◌<◌, length, ◌∷◌, ◌+◌};
 ghost use Rattle.lines.specs.Fields.{cut_from, fields_from, rest};
 ghost use Rattle.lines.specs.laws.FieldLaws.{word};
@@ -8,35 +9,35 @@ ghost use Rattle.lines.specs.Number.{number_of};
 use memory::{DeviceAnswer, JobType};
 
 // A field read as a number.
-#[derive(Drop)]
+#[derive(Clone, Copy)]
 pub enum Number {
     NoNumber,
     Value(u32),
 }
 
 // A field read as a device's answer.
-#[derive(Drop)]
+#[derive(Clone, Copy)]
 pub enum AnswerWord {
     NoAnswer,
     Answer(DeviceAnswer),
 }
 
 // "area address length" of a line.
-#[derive(Drop)]
+#[derive(Clone, Copy)]
 pub struct Target {
     pub area: u32,
     pub address: u32,
     pub length: u32,
 }
 
-#[derive(Drop)]
+#[derive(Clone, Copy)]
 pub enum TargetFields {
     NoTarget,
     At(Target),
 }
 
 // A call on the manager that answers with its number alone.
-#[derive(Drop)]
+#[derive(Clone, Copy)]
 pub enum LineCall {
     Write(Target),
     Read(Target),
@@ -49,7 +50,7 @@ pub enum LineCall {
 }
 
 // What a line asks for.
-#[derive(Drop)]
+#[derive(Clone, Copy)]
 pub enum Line {
     Unreadable,
     Call(LineCall),
@@ -110,7 +111,7 @@ pub fn part_end(bytes: &[u8], mark: u8, from: usize) -> usize
 }
 
 // A field's number, and where the next field begins: past the line's end where there is none.
-#[derive(Drop)]
+#[derive(Clone, Copy)]
 struct NumberField {
     number: Number,
     next: usize,
@@ -209,7 +210,7 @@ fn answer_of(text: &[u8]) -> AnswerWord
 }
 
 // A field's answer, and where the next field begins.
-#[derive(Drop)]
+#[derive(Clone, Copy)]
 struct AnswerField {
     answer: AnswerWord,
     next: usize,

@@ -1,4 +1,5 @@
 // Loading a plan: the first question answered "no", or the plan.
+#![tactic(auto)]
 mod questions;
 
 ghost use Rattle.std.specs.Prelude.{◌≡◌};
@@ -13,7 +14,7 @@ use plan::records::Plan;
 use plan::scan::record_layout;
 use plan::wear::wear_fits;
 
-#[derive(Drop)]
+#[derive(Clone, Copy)]
 pub struct LoadedPlan {
     pub answer: Admission,
     pub plan: Plan,

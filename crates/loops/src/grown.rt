@@ -17,7 +17,7 @@ use plan::records::Plan;
 use state::{Area, Device};
 use wear::add_worn;
 
-#[derive(Drop)]
+#[derive(Clone, Copy)]
 pub struct Grown {
     pub plan: Plan,
     pub areas: [Area; 8],
@@ -27,7 +27,7 @@ pub struct Grown {
     pub more: [u64; 768],
 }
 
-#[derive(Drop)]
+#[derive(Clone, Copy)]
 pub struct GrownAnswered {
     pub answer: Admission,
     pub grown: Grown,

@@ -17,7 +17,7 @@ use state::{Area, Device, DeviceState};
 use wear::Worn;
 
 // What a round changes. The owner adds what it wears to the sums: `wear::add_worn`.
-#[derive(Drop)]
+#[derive(Clone, Copy)]
 pub struct RoundChange {
     pub areas: [Area; 8],
     pub devices: [Device; 4],

@@ -1,4 +1,5 @@
 // The manager: its state by value, and its calls.
+#![tactic(auto)]
 ghost use Rattle.std.specs.Prelude.{◌≡◌, ℕ, ◌<◌, List};
 ghost use Rattle.memory.specs.Numbers.{job_type_number, admission_number};
 ghost use Rattle.plan.specs.Questions.{load_number};
@@ -23,7 +24,7 @@ use wear::add_worn;
 
 // What the plan fixes, and what moves. An area's age is the number of other areas that had a job accepted since its own
 // latest one: among equal priorities the older is above.
-#[derive(Drop)]
+#[derive(Clone, Copy)]
 pub struct Manager {
     pub plan: Plan,
     pub areas: [Area; 8],
@@ -34,51 +35,51 @@ pub struct Manager {
 }
 
 // The answer to a load, and the manager: of all zeros where the load was refused.
-#[derive(Drop)]
+#[derive(Clone, Copy)]
 pub struct Loaded {
     pub answer: Admission,
     pub manager: Manager,
 }
 
 // The next manager, the one given where the call was refused, and the answer. In this order of fields a call by value copies a tenth less.
-#[derive(Drop)]
+#[derive(Clone, Copy)]
 pub struct Answered {
     pub manager: Manager,
     pub answer: Admission,
 }
 
 // The answers to queries. Where one was refused, what it asked for is 0.
-#[derive(Drop)]
+#[derive(Clone, Copy)]
 pub struct StatusAnswer {
     pub answer: Admission,
     pub status: u8,
 }
 
-#[derive(Drop)]
+#[derive(Clone, Copy)]
 pub struct ResultAnswer {
     pub answer: Admission,
     pub result: JobResult,
 }
 
-#[derive(Drop)]
+#[derive(Clone, Copy)]
 pub struct LengthAnswer {
     pub answer: Admission,
     pub processed: u32,
 }
 
-#[derive(Drop)]
+#[derive(Clone, Copy)]
 pub struct JobInfoAnswer {
     pub answer: Admission,
     pub info: JobInfo,
 }
 
-#[derive(Drop)]
+#[derive(Clone, Copy)]
 pub struct MemoryInfoAnswer {
     pub answer: Admission,
     pub info: MemoryInfo,
 }
 
-#[derive(Drop)]
+#[derive(Clone, Copy)]
 pub struct WearInfoAnswer {
     pub answer: Admission,
     pub info: WearInfo,

@@ -1,20 +1,21 @@
 // The types of the field: addresses, job types, statuses, results and the answers to calls.
+#![tactic(auto)]
 ghost use Rattle.std.specs.Prelude.{◌≡◌};
 ghost use Rattle.memory.specs.Numbers.{job_type_number, status_number, refusal_number, admission_number};
 
 // An address in an area's logical space (source document 000: MemAcc_AddressType).
 #[repr(C)]
-#[derive(Drop)]
+#[derive(Clone, Copy)]
 pub struct LogicalAddress(pub u32);
 
 // A physical address: byte p of the image (000: Mem_AddressType). It is wider than a plan's numbers, so that a start and an
 // offset always add up.
 #[repr(C)]
-#[derive(Drop)]
+#[derive(Clone, Copy)]
 pub struct MemAddress(pub u64);
 
 // 000: MemAcc_JobType. Number 5, the hardware specific services, is left out.
-#[derive(Drop)]
+#[derive(Clone, Copy)]
 pub enum JobType {
     NoJob,
     Write,
@@ -42,7 +43,7 @@ impl JobType {
 }
 
 // What a job asks for: its type and its range in the area's logical space.
-#[derive(Drop)]
+#[derive(Clone, Copy)]
 pub struct Task {
     pub kind: JobType,
     pub address: LogicalAddress,
@@ -50,7 +51,7 @@ pub struct Task {
 }
 
 // A device's answer in a round: its request goes on, is done, or failed after some bytes.
-#[derive(Drop)]
+#[derive(Clone, Copy)]
 pub enum DeviceAnswer {
     Pending,
     Done,
@@ -58,7 +59,7 @@ pub enum DeviceAnswer {
 }
 
 // 000: MemAcc_JobStatusType. A job that was cancelled while its request ran is pending until that request ends.
-#[derive(Drop)]
+#[derive(Clone, Copy)]
 pub enum JobStatus {
     Idle,
     Pending,
@@ -79,7 +80,7 @@ impl JobStatus {
 
 // 000: MemAcc_JobResultType.
 #[repr(C)]
-#[derive(Drop)]
+#[derive(Clone, Copy)]
 pub struct JobResult(pub u8);
 
 impl JobResult {
@@ -93,7 +94,7 @@ impl JobResult {
 }
 
 // Document 01, "Questions at the door", and document 02: the question that was answered "no".
-#[derive(Drop)]
+#[derive(Clone, Copy)]
 pub enum Refusal {
     Records,
     Counts,
@@ -147,7 +148,7 @@ impl Refusal {
 }
 
 // The answer to a call.
-#[derive(Drop)]
+#[derive(Clone, Copy)]
 pub enum Admission {
     Accepted,
     Refused(Refusal),

@@ -1,4 +1,5 @@
 // The second half of a round: a device that is free, or has an erase that can give way, picks the highest ranked job that needs it.
+#![tactic(auto)]
 ghost use Rattle.std.specs.Prelude.{◌&&◌, ◌≡◌, ◌≤◌, ◌<◌, eqb};
 ghost use Rattle.arith.specs.Cases.{pick};
 ghost use Rattle.rules.specs.Machine.{is_pending, displaces};
@@ -13,7 +14,7 @@ use segment::{is_erase, is_lock};
 use state::{Area, Device, DeviceState, Job, Suspended};
 
 // The best of the jobs looked at so far.
-#[derive(Drop)]
+#[derive(Clone, Copy)]
 pub enum Best {
     Nobody,
     Area { area: u8, priority: u16, age: u8 },
@@ -90,7 +91,7 @@ fn best_area(
 
 // What a device has for the jobs that need it: nothing, as it runs a request or is locked; itself; or the place of an erase that
 // runs and can give way, or is suspended.
-#[derive(Drop)]
+#[derive(Clone, Copy)]
 pub enum Slot {
     Taken,
     Free,
@@ -195,7 +196,7 @@ pub fn chosen(best: Best) -> usize
 }
 
 // An area and a device when the device has picked.
-#[derive(Drop)]
+#[derive(Clone, Copy)]
 pub struct Start {
     pub area: Area,
     pub device: Device,

@@ -2,5 +2,3 @@ pub mod Number
 pub mod Records
 pub mod Questions
 pub mod WellFormed
-pub mod runs
-pub mod laws

@@ -9,7 +9,7 @@ use memory::LogicalAddress;
 
 // Document 01: a device record. `poll_limit` is its patience.
 #[repr(C)]
-#[derive(Drop)]
+#[derive(Clone, Copy)]
 pub struct DeviceRecord {
     pub start: u32,
     pub length: u32,
@@ -22,14 +22,14 @@ pub struct DeviceRecord {
 
 // An area's part of the job store.
 #[repr(C)]
-#[derive(Drop)]
+#[derive(Clone, Copy)]
 pub struct Window {
     pub start: u32,
     pub length: u32,
 }
 
 #[repr(C)]
-#[derive(Drop)]
+#[derive(Clone, Copy)]
 pub struct AreaRecord {
     pub priority: u16,
     pub start: LogicalAddress,
@@ -39,14 +39,14 @@ pub struct AreaRecord {
 // The unit of an operation, and the most that one request of it takes: sector and sector burst,
 // page and page burst, smallest and largest read.
 #[repr(C)]
-#[derive(Drop)]
+#[derive(Clone, Copy)]
 pub struct Granularity {
     pub unit: u32,
     pub burst: u32,
 }
 
 #[repr(C)]
-#[derive(Drop)]
+#[derive(Clone, Copy)]
 pub struct SubAreaRecord {
     pub start: u32,
     pub erase: Granularity,
@@ -60,7 +60,7 @@ pub struct SubAreaRecord {
 }
 
 // Document 02, 05: what a sub-area's sectors endure.
-#[derive(Drop)]
+#[derive(Clone, Copy)]
 pub struct WearRecord {
     pub sub_area: u8,
     pub endurance: u32,
@@ -68,7 +68,7 @@ pub struct WearRecord {
 
 // The records of a plan with how many of each kind are in use; the others are all zeros.
 #[repr(C)]
-#[derive(Drop)]
+#[derive(Clone, Copy)]
 pub struct Plan {
     pub devices: [DeviceRecord; 4],
     pub areas: [AreaRecord; 8],

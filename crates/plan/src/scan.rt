@@ -4,7 +4,7 @@ ghost use Rattle.arith.specs.Bounded.{some};
 ghost use Rattle.plan.specs.Records.{is_record, records_from, record_layout};
 
 // The two bytes of a record's mark, and how many bytes it has with its mark.
-#[derive(Drop)]
+#[derive(Clone, Copy)]
 pub struct RecordFormat {
     pub first: u8,
     // the second bytes that will do
@@ -40,7 +40,7 @@ fn is_record(bytes: &[u8], at: usize, format: RecordFormat) -> bool
 }
 
 // Records of one format, one behind the other: how many, and where they end.
-#[derive(Drop)]
+#[derive(Clone, Copy)]
 pub struct Run {
     pub count: usize,
     pub end: usize,
@@ -61,7 +61,7 @@ fn run_from(bytes: &[u8], from: usize, format: RecordFormat) -> Run
 }
 
 // How many records of each kind there are, and where the kinds begin and end.
-#[derive(Drop)]
+#[derive(Clone, Copy)]
 pub struct RecordLayout {
     pub device_count: usize,
     pub area_count: usize,

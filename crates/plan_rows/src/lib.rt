@@ -1,4 +1,5 @@
 // The rows of a plan: what the auditor's program says of it.
+#![tactic(auto)]
 ghost use Rattle.std.specs.Prelude.{false, ◌≡◌, ◌+◌, ◌-◌, ◌≤◌, ◌<◌, length};
 ghost use Rattle.plan.specs.WellFormed.{WellFormed};
 ghost use Rattle.rows.specs.Rows.{rows_text};
@@ -12,14 +13,14 @@ use plan_questions::area_size;
 use rows::{Form, PlanForm, Row, print_row};
 
 // A place of the plan's rows: a row, or none.
-#[derive(Drop)]
+#[derive(Clone, Copy)]
 pub struct Place {
     pub shown: bool,
     pub row: Row,
 }
 
 // How far the plan's rows are printed: the next place, and where the text ends.
-#[derive(Drop)]
+#[derive(Clone, Copy)]
 pub struct Printed {
     pub next: usize,
     pub end: usize,

@@ -1,4 +1,5 @@
 // Questions 9 to 19 of the calls, in their order.
+#![tactic(auto)]
 ghost use Rattle.std.specs.Prelude.{◌∷◌, [], ◌≡◌, true, not, ◌≤◌, ltb};
 ghost use Rattle.arith.specs.Cases.{pick};
 ghost use Rattle.arith.specs.FirstNo.{first_no};
@@ -178,7 +179,7 @@ fn round_answer(
 
 // 9, 18, 19: the answer to a round, with the due segments of the pending jobs, which an accepted round goes on with. Of a state
 // that is not sound they are left open: no round follows.
-#[derive(Drop)]
+#[derive(Clone, Copy)]
 pub struct RoundAdmission {
     pub answer: Admission,
     pub dues: [Segment; 8],

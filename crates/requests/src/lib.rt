@@ -1,4 +1,5 @@
 // A running request takes its device's answer: what it does to image and store, to the job and to the device.
+#![tactic(auto)]
 ghost use Rattle.std.specs.Prelude.{◌≡◌, ◌+◌, ◌≤◌, leb, length};
 ghost use Rattle.rules.specs.Memory.{verdict_of, answered_memory};
 ghost use Rattle.effects.specs.Effects.{verdict, lent_end, memory_of};
@@ -12,7 +13,7 @@ use segment::{Segment, no_segment, segment_from};
 use state::{DeviceState, Job};
 
 // A job, its due segment and its device when the job's request has taken an answer.
-#[derive(Drop)]
+#[derive(Clone, Copy)]
 pub struct Taken {
     pub job: Job,
     pub due: Segment,

@@ -23,7 +23,7 @@ use state::{Area, Device};
 use wear::Worn;
 
 // What a round makes of areas and devices, and what each device's answer wears. The sums themselves do not go through it: what is handed on is copied.
-#[derive(Drop)]
+#[derive(Clone, Copy)]
 pub struct Arrays {
     pub areas: [Area; 8],
     pub devices: [Device; 4],

@@ -1,4 +1,5 @@
 // The rows that the auditor's program prints: a form and its numbers, written behind what stands in a lent buffer.
+#![tactic(auto)]
 ghost use Rattle.std.specs.Prelude.{◌≡◌, ◌+◌, ◌*◌, ◌≤◌, ◌<◌, length, get_or};
 ghost use Rattle.texts.specs.Appended.{Appended};
 ghost use Rattle.rows.specs.Forms.{filled};
@@ -7,7 +8,7 @@ ghost use Rattle.rows.specs.Rows.{plan_form, job_form, reach_form, wait_form, ro
 use texts::{push, push_number};
 
 // Rows of the plan.
-#[derive(Drop)]
+#[derive(Clone, Copy)]
 pub enum PlanForm {
     Device,
     DeviceSuspends,
@@ -21,7 +22,7 @@ pub enum PlanForm {
 }
 
 // The head of a job, by its type, and what is said instead where it is no job or not admitted.
-#[derive(Drop)]
+#[derive(Clone, Copy)]
 pub enum JobForm {
     Unreadable,
     Write,
@@ -34,7 +35,7 @@ pub enum JobForm {
 }
 
 // What a job reaches, and how it is cut.
-#[derive(Drop)]
+#[derive(Clone, Copy)]
 pub enum ReachForm {
     ImageChanged,
     ImageRead,
@@ -48,7 +49,7 @@ pub enum ReachForm {
 }
 
 // How long a job waits at most.
-#[derive(Drop)]
+#[derive(Clone, Copy)]
 pub enum WaitForm {
     Own,
     Below,
@@ -60,7 +61,7 @@ pub enum WaitForm {
     RoundsNone,
 }
 
-#[derive(Drop)]
+#[derive(Clone, Copy)]
 pub enum Form {
     OfPlan(PlanForm),
     OfJob(JobForm),
@@ -68,7 +69,7 @@ pub enum Form {
     OfWait(WaitForm),
 }
 
-#[derive(Drop)]
+#[derive(Clone, Copy)]
 pub struct Row {
     pub form: Form,
     pub numbers: [u64; 8],

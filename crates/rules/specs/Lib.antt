@@ -10,5 +10,3 @@ pub mod Queries
 pub mod Wear
 pub mod Session
 pub mod statements
-pub mod runs
-pub mod laws

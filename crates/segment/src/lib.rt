@@ -1,17 +1,18 @@
 // Segmentation: where a job's bytes lie, and how a job is cut into driver requests.
+#![tactic(auto)]
 ghost use Rattle.std.specs.Prelude.{◌≡◌, ◌+◌, ◌-◌, ◌≤◌, ◌<◌, min, length};
 ghost use Rattle.plan.specs.Questions.{size_of};
 ghost use Rattle.segment.specs.Mapping.{find, located, mapped};
-ghost use Rattle.segment.specs.laws.Lookup.{met, next_of, outcome_of};
+ghost use Rattle.segment.proofs.laws.Lookup.{met, next_of, outcome_of};
 ghost use Rattle.segment.specs.Segments.{is_lock, is_erase, unit_of, retries_of, burst_or_unit, segment_length, segment_in, no_segment, segment_at};
-ghost use Rattle.segment.specs.laws.Found.{index_of, Inside, segment_if, segment_from};
+ghost use Rattle.segment.proofs.laws.Found.{index_of, Inside, segment_if, segment_from};
 
 use memory::{JobType, LogicalAddress, MemAddress, Task};
 use multiples::is_multiple;
 use plan::records::{Granularity, Plan, SubAreaRecord};
 
 // What the lookup finds: a sub-area record, the offset in it and the byte's physical address, or no sub-area of the area has the byte.
-#[derive(Drop)]
+#[derive(Clone, Copy)]
 pub enum Found {
     Outside,
     At {
@@ -23,7 +24,7 @@ pub enum Found {
 
 // The lookup on its way: the byte is found, at offset `left` of a record and so at physical address `at`, or is still `left` bytes
 // of the area away.
-#[derive(Drop)]
+#[derive(Clone, Copy)]
 struct Seek {
     found: bool,
     sub_area: usize,
@@ -33,7 +34,7 @@ struct Seek {
 
 // A part of a job for one driver request: in one sub-area, whose sector it names, with the retries that it may take. The wide fields stand first, since a
 // round then moves its segments fastest.
-#[derive(Drop)]
+#[derive(Clone, Copy)]
 pub struct Segment {
     pub start: MemAddress,
     pub length: u64,

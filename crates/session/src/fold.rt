@@ -11,7 +11,7 @@ use texts::question_line;
 use wear::add_worn;
 
 // The next manager, how much of the input was used, and how many bytes were written.
-#[derive(Drop)]
+#[derive(Clone, Copy)]
 pub struct Progress {
     pub manager: Manager,
     pub used: usize,

@@ -1,4 +1,5 @@
 // The bench's session (document 01, "A printed session"): a plan and the lines that follow it.
+#![tactic(auto)]
 ghost use Rattle.std.specs.Prelude.{◌≡◌, ◌≤◌, length};
 ghost use Rattle.manager.specs.Load.{loaded_manager};
 ghost use Rattle.effects.specs.Effects.{memory_of};
@@ -16,7 +17,7 @@ use plan::checks::device_sum;
 use texts::{number_line, question_line};
 
 // The manager of a plan, the length of its image, and how many bytes were written: none where the session goes on.
-#[derive(Drop)]
+#[derive(Clone, Copy)]
 pub struct Opened {
     pub manager: Manager,
     pub image_length: usize,

@@ -21,7 +21,7 @@ use state::{Area, Device};
 use texts::{info_line, number_line};
 
 // A call by the function that carries it out: one for the five jobs and the lock request.
-#[derive(Drop)]
+#[derive(Clone, Copy)]
 pub enum PlainCall {
     Job { area: u32, task: Task },
     Release(Target),

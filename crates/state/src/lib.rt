@@ -1,4 +1,5 @@
 // What moves in a manager: each area's latest job with its waits, and what each device does.
+#![tactic(auto)]
 ghost use Rattle.std.specs.Prelude.{◌≡◌};
 ghost use Rattle.state.specs.Fresh.{no_job, fresh_area, free_device};
 
@@ -6,7 +7,7 @@ use memory::{JobResult, JobStatus, JobType, LogicalAddress, MemAddress, Task};
 use plan::records::Granularity;
 
 // An area's latest job. Its data stay after its end until the next job is accepted.
-#[derive(Drop)]
+#[derive(Clone, Copy)]
 pub struct Job {
     pub task: Task,
     pub processed: u32,
@@ -17,7 +18,7 @@ pub struct Job {
 
 // The rounds that closed while the latest job was pending, by what it waited for.
 #[repr(C)]
-#[derive(Drop)]
+#[derive(Clone, Copy)]
 pub struct Waits {
     pub own: u32,
     pub above: u32,
@@ -25,14 +26,14 @@ pub struct Waits {
     pub locked: u32,
 }
 
-#[derive(Drop)]
+#[derive(Clone, Copy)]
 pub struct Area {
     pub job: Job,
     pub waits: Waits,
 }
 
 // What a device does. What it runs for an area is that area's next segment.
-#[derive(Drop)]
+#[derive(Clone, Copy)]
 pub enum DeviceState {
     Free,
     Runs { area: u8, polls: u16 },
@@ -40,20 +41,20 @@ pub enum DeviceState {
 }
 
 // An erase that has given way, with its polls; its area's due segment is the one that it erases.
-#[derive(Drop)]
+#[derive(Clone, Copy)]
 pub enum Suspended {
     Nothing,
     Erase { area: u8, polls: u16 },
 }
 
-#[derive(Drop)]
+#[derive(Clone, Copy)]
 pub struct Device {
     pub state: DeviceState,
     pub suspended: Suspended,
 }
 
 // The running request of a job; all zeros where none runs. The hardware id is the device number.
-#[derive(Drop)]
+#[derive(Clone, Copy)]
 pub struct RequestInfo {
     pub device: u8,
     pub start: MemAddress,
@@ -62,7 +63,7 @@ pub struct RequestInfo {
 }
 
 // 000: MemAcc_JobInfoType, with the waits.
-#[derive(Drop)]
+#[derive(Clone, Copy)]
 pub struct JobInfo {
     pub task: Task,
     pub result: JobResult,
@@ -72,7 +73,7 @@ pub struct JobInfo {
 }
 
 // 000: MemAcc_MemoryInfoType, of the sub-area that holds an address.
-#[derive(Drop)]
+#[derive(Clone, Copy)]
 pub struct MemoryInfo {
     pub logical_start: LogicalAddress,
     pub physical_start: MemAddress,
@@ -84,7 +85,7 @@ pub struct MemoryInfo {
 }
 
 // Document 02, 05: the wear of the sub-area that holds an address: its sum of sectors erased, and the charge in millionths.
-#[derive(Drop)]
+#[derive(Clone, Copy)]
 pub struct WearInfo {
     pub sum: u32,
     pub charge: u64,

@@ -1,11 +1,12 @@
 // Reading and writing of whole contents: the end is told from an error, a call that a signal cut off is made again, and
 // what a call left over is read or written by the next. The C library decides what a read brings and how much a write takes, and its contracts bound counts alone: so the bytes of a buffer that was read
 // into are left open, those behind the count too, and which of the answers comes.
+#![tactic(auto)]
 ghost use Rattle.std.specs.Prelude.{◌≤◌, length};
 ghost use Rattle.streams.specs.Counts.{chunk_within, contents_within};
 
 // What one read found.
-#[derive(Drop)]
+#[derive(Clone, Copy)]
 pub enum Chunk {
     Bytes(usize),
     End,
@@ -13,7 +14,7 @@ pub enum Chunk {
 }
 
 // What reading a file to its end found.
-#[derive(Drop)]
+#[derive(Clone, Copy)]
 pub enum Contents {
     Bytes(usize),
     TooLong,

@@ -1,4 +1,5 @@
 // What a session prints (document 01, "A printed session"), written behind what stands in a lent buffer.
+#![tactic(auto)]
 ghost use Rattle.std.specs.Prelude.{◌≡◌, [], ◌∷◌, ◌+◌, ◌/◌, ◌%◌, ◌^◌, ◌≤◌, ◌<◌, length};
 ghost use Rattle.texts.specs.Appended.{Appended};
 ghost use Rattle.texts.specs.Texts.{behind, digit_count, decimal, number_line, question_line, info_line, free_text, locked_text, request_text};
@@ -16,7 +17,7 @@ pub fn push(out: &mut [u8], at: usize, byte: u8) -> usize
 }
 
 // The place of a number's first digit: how many digits stand behind it, and its power of ten.
-#[derive(Drop)]
+#[derive(Clone, Copy)]
 struct Place {
     behind: usize,
     power: u64,

@@ -1,2 +1,1 @@
 pub mod Wear
-pub mod laws

@@ -1,9 +1,10 @@
 // Wear in numbers: the sectors of an erase, a sum of them that sticks, and its charge.
+#![tactic(auto)]
 ghost use Rattle.std.specs.Prelude.{◌≡◌, ◌≤◌};
 ghost use Rattle.wear.specs.Wear.{sectors_in, worn_to, no_worn, add_worn, rounded_up, charge_of};
 
 // What a device's answer wears: so many sectors of a sub-area. Both fields are words, which are moved faster than bytes.
-#[derive(Drop)]
+#[derive(Clone, Copy)]
 pub struct Worn {
     pub sub_area: usize,
     pub sectors: u64,

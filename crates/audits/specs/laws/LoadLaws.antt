@@ -12,13 +12,13 @@ use Rattle.plan.specs.Questions.{load_number}
 use Rattle.plan.specs.Records.{plan_of}
 use Rattle.plan.specs.WellFormed.{WellFormed}
 use Rattle.plan.specs.declared.records.Plan.{Plan}
-use Rattle.plan.specs.laws.Accepted.{accepted}
+use Rattle.plan.proofs.laws.Accepted.{accepted}
 use Rattle.program.specs.Run.{run_of}
 use Rattle.program.specs.laws.Program.{all_calls}
 use Rattle.rules.specs.Admission.{is_known, is_idle, job_questions, job_number, admits}
 use Rattle.rules.specs.History.{submit, fresh_history, run}
 use Rattle.rules.specs.Machine.{Core}
-use Rattle.rules.specs.laws.PlanLaws.{admitted}
+use Rattle.rules.proofs.laws.PlanLaws.{admitted}
 use Rattle.rules.specs.statements.JobSets.{is_admissible}
 
 pub record Loaded (m : Manager) : Type 0 where

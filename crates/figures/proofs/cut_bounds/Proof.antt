@@ -4,7 +4,7 @@ use Prim.Native.Nat.{◌-◌, ◌*◌, ◌≤◌}
 use mathlib.Core.Path.{◌≡◌, refl, sym, ◌∙◌}
 use Rattle.figures.specs.laws.BoundLaws.{bounds_after, all_bounds, more_few, device_few, segment_some, segment_fits_lem, next_cut_lem, bounds_turn, bounds_end}
 use Rattle.segment.specs.Segments.{segment_at, segments_from}
-use Rattle.segment.specs.laws.CutLaws.{Cut, at_start}
+use Rattle.segment.proofs.laws.CutLaws.{Cut, at_start}
 use borrow.Author.Rules.{rules}
 use Rattle.figures.proofs.cut_bounds.Statement.{statement}
 use Rattle.figures.proofs.cut_bounds.Tie as tie

@@ -1,7 +1,7 @@
 use mathlib.Core.Path.{sym, ◌∙◌}
 use Rattle.figures.specs.laws.BoundLaws.{device_few, lock_bounds, all_bounds_lem}
 use Rattle.rules.specs.Layout.{layout_of}
-use Rattle.segment.specs.laws.CutLaws.{at_start}
+use Rattle.segment.proofs.laws.CutLaws.{at_start}
 use borrow.Author.Rules.{rules}
 use Rattle.figures.proofs.job_bounds.Statement.{statement}
 use Rattle.figures.proofs.job_bounds.Tie as tie

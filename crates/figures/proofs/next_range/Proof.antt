@@ -6,7 +6,7 @@ use Rattle.figures.specs.Ranges.{ranges_after, ranges_of}
 use Rattle.figures.specs.laws.BoundLaws.{segment_some, segment_fits_lem, next_cut_lem, inside_image}
 use Rattle.figures.specs.laws.RangeLaws.{range_first, range_more, range_device_lem, range_gap, range_last}
 use Rattle.segment.specs.Segments.{segment_at, segments_from}
-use Rattle.segment.specs.laws.CutLaws.{Cut}
+use Rattle.segment.proofs.laws.CutLaws.{Cut}
 use Rattle.figures.proofs.next_range.Statement.{statement}
 use Rattle.figures.proofs.next_range.Tie as tie
 use Rattle.figures.proofs.next_range.Reads as reads

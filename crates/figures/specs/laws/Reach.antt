@@ -2,7 +2,7 @@
 use Prim.Native.Nat.{ℕ, zero, suc, ◌+◌, ◌-◌, ◌≤◌, ◌<◌}
 use Rattle.std.specs.Prelude.{List, [], ◌∷◌, ◌⊎◌, ◌↔◌, ◌≡◌, eqb}
 use Rattle.std.proofs.Common.{inl, inr, ◌∙◌, arith, eqb-true}
-use Rattle.std.proofs.Math.Logic.{Iff·trans}
+use Rattle.std.proofs.Math.Logic.Iff
 use Rattle.std.proofs.Math.Path.{refl, sym, ap}
 use Rattle.std.proofs.Math.ListN.{get_or}
 use Rattle.arith.specs.Cases.{by_bool, by_ltb, and_elim}
@@ -13,8 +13,8 @@ use Rattle.plan.specs.declared.records.Plan.{Plan}
 use Rattle.segment.specs.Bytes.{bytes_of, mapped_byte, mapped_bytes}
 use Rattle.segment.specs.Segments.{segment_at, segments_from}
 use Rattle.segment.specs.declared.Segment.{Segment}
-use Rattle.segment.specs.laws.BytesLaws.{segment_bytes}
-use Rattle.segment.specs.laws.CutLaws.{Cut, at_start, segments_end}
+use Rattle.segment.proofs.laws.BytesLaws.{segment_bytes}
+use Rattle.segment.proofs.laws.CutLaws.{Cut, at_start, segments_end}
 use Rattle.figures.specs.Figures.{Audited}
 use Rattle.figures.specs.Ranges.{range_of, adjoins, with_segment, ranges_after, ranges_of, Inside, RangesExact}
 use Rattle.figures.specs.declared.Range.{Range}
@@ -58,7 +58,7 @@ after_segments r (s ∷ l) x =
     by_bool (adjoins r s)
     (λ e.
     let ends = eqb-true (r.start + r.length) s.start.0 (and_elim (eqb r.device s.device) _ e).1 in
-    rw e (Iff·trans (after_segments (with_segment r s) l x) (two_parts r.start r.length s.start.0 s.length x ends)))
+    rw e (Iff.trans (after_segments (with_segment r s) l x) (two_parts r.start r.length s.start.0 s.length x ends)))
     (λ e. rw e (or_same (after_segments (range_of s) l x)))
 
 -- the ranges hold the bytes of the segments
@@ -118,11 +118,11 @@ module _ (p : Plan) (a : ℕ) (t : Task) (f : Audited p a t) where
       (λ _ l.
       let g = segment_some p a t f x c l _ refl in
       let rest = segments_from_lem n (x + (segment_at p a t x).length) (omega arith) (next_cut_lem p a t f x c l _ refl) q in
-      rw (next_segments p a t f x c l _ refl) (Iff·trans (or_same rest) (one_more c l q)))
+      rw (next_segments p a t f x c l _ refl) (Iff.trans (or_same rest) (one_more c l q)))
       (λ _ l. none_left x l q)
 
 -- a byte lies in a range of an admitted job exactly when it is a mapped byte of the job
 pub ranges_exact : RangesExact
 ranges_exact p a t f x =
-    let both = Iff·trans (ranges_segments _ x) (segments_from_lem p a t f t.length 0 (omega arith) at_start x) in
+    let both = Iff.trans (ranges_segments _ x) (segments_from_lem p a t f t.length 0 (omega arith) at_start x) in
     (λ h. let (k, _, l, e) = both.0 h in (k, l, e), λ w. both.1 (w.0, omega arith, w.1, w.2))

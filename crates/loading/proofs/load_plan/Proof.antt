@@ -5,8 +5,8 @@ use native.Mathlib.Omega.{arith}
 use borrow.Author.Tests.{not-true, not-false}
 use Rattle.loading.specs.laws.LoadLaws.{not_whole, too_many, read_counts, by_record, by_wear, kept, not_kept}
 use Rattle.arith.specs.FirstNo.{ask}
-use Rattle.plan.specs.laws.RecordLaws.{layout_steps}
-use Rattle.plan.specs.laws.SizeLaws.{counts}
+use Rattle.plan.proofs.laws.RecordLaws.{layout_steps}
+use Rattle.plan.proofs.laws.SizeLaws.{counts}
 use borrow.Author.Rules.{rules}
 use Rattle.loading.proofs.load_plan.Statement.{statement}
 use Rattle.loading.proofs.load_plan.Tie as tie

@@ -4,7 +4,7 @@ use borrow.Author.Tests.{eq-eqb, ne_eqb, le-leb, lt-leb}
 use Rattle.arith.specs.Bounded.{every}
 use Rattle.arith.specs.Plain.{and_plain}
 use Rattle.plan.specs.Questions.{counts_fit}
-use Rattle.plan.specs.laws.SizeLaws.{counts}
+use Rattle.plan.proofs.laws.SizeLaws.{counts}
 use Rattle.plan.specs.declared.records.Plan.{Plan}
 use Rattle.rules.specs.Admission.{uses_window}
 use Rattle.segment.specs.declared.Segment.{Segment}

@@ -14,8 +14,8 @@ use Rattle.rules.specs.Admission.{admits, uses_window, if_asked}
 use Rattle.rules.specs.Layout.{layout_of}
 use Rattle.rules.specs.Machine.{Core}
 use Rattle.rules.specs.statements.Reach.{request_of}
-use Rattle.rules.specs.laws.Reachable.{Reachable}
-use Rattle.rules.specs.laws.Requests.{AtCuts, placed, running_on, device_end_lem}
+use Rattle.rules.proofs.laws.Reachable.{Reachable}
+use Rattle.rules.proofs.laws.Requests.{AtCuts, placed, running_on, device_end_lem}
 use Rattle.state.specs.declared.Area.{Area}
 use Rattle.state.specs.declared.Device.{Device}
 use Rattle.state.specs.declared.DeviceState.{DeviceState}

@@ -4,7 +4,7 @@ use Rattle.std.proofs.Common.{arith, eqb-true}
 use Rattle.arith.specs.Cases.{by_bool}
 use Rattle.plan.specs.Questions.{load_number, loaded_plan}
 use Rattle.plan.specs.Records.{empty_plan}
-use Rattle.plan.specs.laws.Accepted.{accepted}
+use Rattle.plan.proofs.laws.Accepted.{accepted}
 use Rattle.state.specs.Ages.{first_ages}
 use Rattle.manager.specs.Load.{fresh_manager, zero_manager, loaded_manager}
 

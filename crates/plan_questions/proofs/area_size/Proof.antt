@@ -4,7 +4,7 @@ use native.Mathlib.Omega.{arith}
 use borrow.Author.Rules.{rules}
 use Rattle.arith.specs.Bounded.{sum}
 use Rattle.plan.specs.Questions.{sub_area_of, area_size}
-use Rattle.plan.specs.laws.SizeLaws.{size_in_few, size_more}
+use Rattle.plan.proofs.laws.SizeLaws.{size_in_few, size_more}
 use Rattle.plan_questions.proofs.area_size.Statement.{statement}
 use Rattle.plan_questions.proofs.area_size.Tie as tie
 use Rattle.plan_questions.proofs.area_size.Reads as reads

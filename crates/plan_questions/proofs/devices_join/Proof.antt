@@ -6,7 +6,7 @@ use borrow.Author.Rules.{rules}
 use borrow.Author.Tests.{not-true, not-false}
 use Rattle.arith.specs.Bounded.{every, every_fails, every_more}
 use Rattle.plan.specs.Questions.{device_of, device_due, device_joins, length_sum, devices_join}
-use Rattle.plan.specs.laws.SizeLaws.{due_more, length_more}
+use Rattle.plan.proofs.laws.SizeLaws.{due_more, length_more}
 use Rattle.plan_questions.proofs.devices_join.Statement.{statement}
 use Rattle.plan_questions.proofs.devices_join.Tie as tie
 use Rattle.plan_questions.proofs.devices_join.Reads as reads

@@ -9,7 +9,7 @@ use Rattle.plan.specs.Questions.{sub_area_of, size_of}
 use Rattle.plan.specs.WellFormed.{WellFormed}
 use Rattle.plan.specs.declared.records.Plan.{Plan}
 use Rattle.rules.specs.Layout.{priority_of}
-use Rattle.rules.specs.laws.Requests.{device_end_lem}
+use Rattle.rules.proofs.laws.Requests.{device_end_lem}
 use Rattle.rules.specs.statements.JobSets.{is_on}
 use Rattle.rows.specs.Rows.{row_text, rows_text}
 use Rattle.rows.specs.declared.Row.{Row}

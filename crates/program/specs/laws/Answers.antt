@@ -17,10 +17,10 @@ use Rattle.rules.specs.History.{Query, status, result, processed, job_info, memo
 use Rattle.rules.specs.Layout.{layout_of}
 use Rattle.rules.specs.Machine.{Core}
 use Rattle.rules.specs.Memory.{Memory}
-use Rattle.rules.specs.laws.RankLaws.{AgesApart}
+use Rattle.rules.proofs.laws.RankLaws.{AgesApart}
 use Rattle.rules.specs.Answers.{query_number, call_number, call_memory}
-use Rattle.rules.specs.laws.Reachable.{Reachable}
-use Rattle.rules.specs.laws.Requests.{AtCuts}
+use Rattle.rules.proofs.laws.Reachable.{Reachable}
+use Rattle.rules.proofs.laws.Requests.{AtCuts}
 use Rattle.rules.specs.Round.{round_halves}
 use Rattle.rounds.specs.laws.Halves.{both, round_bare}
 use Rattle.program.specs.Run.{manager_query_number, manager_number, manager_memory}

@@ -10,7 +10,7 @@ use Rattle.devices.specs.Arrays.{job_in, device_in, core_in}
 use Rattle.close.specs.Close.{closed, waits_in, area_after, areas_after, devices_after}
 use Rattle.rules.specs.Layout.{Layout}
 use Rattle.rules.specs.Machine.{Core, is_pending, wait_of}
-use Rattle.rules.specs.laws.RankLaws.{AgesApart}
+use Rattle.rules.proofs.laws.RankLaws.{AgesApart}
 use Rattle.rules.specs.Ranks.{ages_after}
 use Rattle.state.specs.Ages.{age_in}
 use Rattle.state.specs.laws.AgesLaws.{age_at, age_past}

@@ -22,10 +22,10 @@ use Rattle.rules.specs.Layout.{layout_of}
 use Rattle.rules.specs.Machine.{Core}
 use Rattle.rules.specs.Memory.{Memory}
 use Rattle.rules.specs.Round.{round_halves}
-use Rattle.rules.specs.laws.Demand1.{pick_refused, round_inside}
-use Rattle.rules.specs.laws.RequestBytes.{Fits}
-use Rattle.rules.specs.laws.Requests.{request_at, by_request, round_accepted}
-use Rattle.rules.specs.laws.TakeLaws.{Alone}
+use Rattle.rules.proofs.laws.Demand1.{pick_refused, round_inside}
+use Rattle.rules.proofs.laws.RequestBytes.{Fits}
+use Rattle.rules.proofs.laws.Requests.{request_at, by_request, round_accepted}
+use Rattle.rules.proofs.laws.TakeLaws.{Alone}
 use Rattle.state.specs.declared.DeviceState.TheVariants.{Runs}
 use Rattle.rules.specs.statements.Reach.{request_of}
 use Rattle.rules.specs.statements.Statements.{RoundInside}

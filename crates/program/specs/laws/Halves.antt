@@ -7,13 +7,13 @@ use Rattle.arith.specs.Parts.{upd_case}
 use Rattle.memory.specs.declared.DeviceAnswer.{DeviceAnswer}
 use Rattle.plan.specs.declared.records.Plan.{Plan}
 use Rattle.rules.specs.Admission.{admits}
-use Rattle.rules.specs.laws.Best.{ready_plain}
+use Rattle.rules.proofs.laws.Best.{ready_plain}
 use Rattle.rules.specs.Layout.{Layout, layout_of, layout_at}
 use Rattle.rules.specs.Machine.{Core, is_pending, second_half}
-use Rattle.rules.specs.laws.Reachable.{Reachable}
-use Rattle.rules.specs.laws.Requests.{running_on}
+use Rattle.rules.proofs.laws.Reachable.{Reachable}
+use Rattle.rules.proofs.laws.Requests.{running_on}
 use Rattle.rules.specs.Round.{Half, answer_for, take_all, round_halves}
-use Rattle.rules.specs.laws.StepLaws.{take_case, untouched, start_case, earlier_turns}
+use Rattle.rules.proofs.laws.StepLaws.{take_case, untouched, start_case, earlier_turns}
 
 -- the second half leaves an area that is not pending
 starts_leave_job : (p : Layout) (n : ℕ) (c : Core) (a : ℕ) → is_pending (c.jobs a) ≡ false → (second_half p n c).jobs a ≡ c.jobs a

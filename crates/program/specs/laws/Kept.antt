@@ -9,18 +9,18 @@ use Rattle.arith.specs.FirstNo.{none_elim}
 use Rattle.manager.specs.Calls.{core_of, after_job, after_release, after_cancel, after_round}
 use Rattle.manager.specs.Load.{fresh_manager, loaded_manager}
 use Rattle.manager.specs.declared.Manager.{Manager}
-use Rattle.plan.specs.laws.Accepted.{accepted}
+use Rattle.plan.proofs.laws.Accepted.{accepted}
 use Rattle.plan.specs.Questions.{load_number}
 use Rattle.plan.specs.Records.{plan_of}
 use Rattle.plan.specs.WellFormed.{WellFormed}
 use Rattle.plan.specs.declared.records.Plan.{Plan}
 use Rattle.rules.specs.Admission.{cancel_questions, cancel_number}
-use Rattle.rules.specs.laws.Admitted.{job_admitted, release_admitted}
-use Rattle.rules.specs.laws.DoneKept.{done_fits}
+use Rattle.rules.proofs.laws.Admitted.{job_admitted, release_admitted}
+use Rattle.rules.proofs.laws.DoneKept.{done_fits}
 use Rattle.rules.specs.History.{Call, submit, releases, cancels, asks, round, History, fresh_history, step, run}
 use Rattle.rules.specs.Machine.{Core}
-use Rattle.rules.specs.laws.PlanLaws.{plan_laws}
-use Rattle.rules.specs.laws.Runs.{history_fits}
+use Rattle.rules.proofs.laws.PlanLaws.{plan_laws}
+use Rattle.rules.proofs.laws.Runs.{history_fits}
 use Rattle.rules.specs.Wear.{worn_in}
 use Rattle.state.specs.Ages.{first_ages, age_in}
 use Rattle.state.specs.laws.AgesLaws.{age_past}

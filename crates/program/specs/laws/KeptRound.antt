@@ -12,7 +12,7 @@ use Rattle.rules.specs.Memory.{Memory}
 use Rattle.rounds.specs.laws.WearTurns.{erases_bare}
 use Rattle.rules.specs.Round.{Half, round_erases, round_halves}
 use Rattle.rules.specs.Wear.{stuck_wear}
-use Rattle.rules.specs.laws.WearLaws.{length_wear, wear_sums}
+use Rattle.rules.proofs.laws.WearLaws.{length_wear, wear_sums}
 use Rattle.segment.specs.declared.Segment.{Segment}
 use Rattle.state.specs.Fresh.{no_job, free_device}
 use Rattle.program.specs.laws.Answers.{Reached, halves_are}

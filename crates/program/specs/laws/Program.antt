@@ -8,8 +8,8 @@ use Rattle.plan.specs.Questions.{load_number}
 use Rattle.plan.specs.Records.{plan_of}
 use Rattle.plan.specs.declared.records.Plan.{Plan}
 use Rattle.rules.specs.History.{Call, History, fresh_history, run}
-use Rattle.rules.specs.laws.Demands.{Agrees, agreeing_demands}
-use Rattle.rules.specs.laws.JobSets.{agreeing_job_sets}
+use Rattle.rules.proofs.laws.Demands.{Agrees, agreeing_demands}
+use Rattle.rules.proofs.laws.JobSets.{agreeing_job_sets}
 use Rattle.program.specs.Run.{run_of}
 use Rattle.program.specs.Stands.{with_core_ages, beside, Stands, manager_run}
 use Rattle.program.specs.Statements.{Holds, AllCalls, Unloaded}

@@ -8,7 +8,7 @@ use Rattle.rules.specs.Admission.{info_questions, info_number}
 use Rattle.rules.specs.History.{job_info, asks, History}
 use Rattle.rules.specs.Queries.{job_info_of}
 use Rattle.rules.specs.Wear.{stuck_wear, worn_at}
-use Rattle.rules.specs.laws.WearLaws.{wear_info_same}
+use Rattle.rules.proofs.laws.WearLaws.{wear_info_same}
 use Rattle.program.specs.Stands.{ages_of, beside, Stands}
 use Rattle.program.specs.Statements.{Reported}
 use Rattle.program.specs.laws.Answers.{Reached, answer_is}

@@ -16,7 +16,7 @@ use Rattle.rules.specs.Admission.{image_fits, store_reaches}
 use Rattle.rules.specs.Layout.{layout_of}
 use Rattle.rules.specs.Machine.{Core, Verdict, doing, take_on, take_answer}
 use Rattle.rules.specs.Memory.{Memory}
-use Rattle.rules.specs.laws.StepLaws.{take_case, take_leaves}
+use Rattle.rules.proofs.laws.StepLaws.{take_case, take_leaves}
 use Rattle.rules.specs.Round.{Half, take_in, take_all, answer_for}
 use Rattle.segment.specs.Segments.{segment_at}
 use Rattle.state.specs.declared.Area.{Area}

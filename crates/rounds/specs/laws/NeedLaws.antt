@@ -17,7 +17,7 @@ use Rattle.rules.specs.Layout.{Layout, layout_of, layout_at}
 use Rattle.rules.specs.Machine.{Core, Choice, nobody, area, is_pending, need, ready, better, best, start_choice, erase_or_choice, start_over, start_on, start_device, second_half, wait_behind, wait_on, wait_of}
 use Rattle.rules.specs.Memory.{Memory}
 use Rattle.rules.specs.Round.{take_all, round_halves}
-use Rattle.rules.specs.laws.StepLaws.{start_case}
+use Rattle.rules.proofs.laws.StepLaws.{start_case}
 use Rattle.segment.specs.Segments.{is_erase, no_segment}
 use Rattle.segment.specs.declared.Segment.{Segment}
 use Rattle.state.specs.Ages.{age_in}

@@ -5,7 +5,7 @@ use Rattle.memory.specs.declared.DeviceAnswer.{DeviceAnswer}
 use Rattle.memory.specs.declared.DeviceAnswer.TheVariants.{Pending, Done}
 use Rattle.memory.specs.declared.JobType.TheVariants.{Write}
 use Rattle.plan.specs.declared.records.Plan.{Plan}
-use Rattle.plan.specs.runs.Examples.{plan_t, examples}
+use Rattle.plan.proofs.runs.Examples.{plan_t, examples}
 use Rattle.arith.specs.Bounded as Bounded
 use Rattle.arith.specs.FirstNo as FirstNo
 use Rattle.arith.specs.Multiples as Multiples
@@ -23,7 +23,7 @@ use Rattle.rules.specs.Admission as Admission
 use Rattle.rules.specs.Round as Round
 use Rattle.rules.specs.History as History
 use Rattle.rules.specs.History.{Call}
-use Rattle.rules.specs.runs.InfoRuns.{round, task, job}
+use Rattle.rules.proofs.runs.InfoRuns.{round, task, job}
 use Rattle.rules.specs.statements.JobSets as JobSets
 use Rattle.rules.specs.statements.Statements as Statements
 

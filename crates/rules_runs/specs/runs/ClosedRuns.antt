@@ -3,7 +3,7 @@ use Rattle.std.specs.Prelude.{ℕ, ◌+◌, ◌≡◌, refl, List, [], ◌∷◌
 use Rattle.memory.specs.declared.DeviceAnswer.TheVariants.{Pending, Done, Failed}
 use Rattle.memory.specs.declared.JobType.{JobType}
 use Rattle.memory.specs.declared.JobType.TheVariants.{Write, Read, Compare, Erase, BlankCheck, Lock}
-use Rattle.plan.specs.runs.Examples.{plan_t, plan_e, device, area, sub_area, sizes}
+use Rattle.plan.proofs.runs.Examples.{plan_t, plan_e, device, area, sub_area, sizes}
 use Rattle.rules.specs.Session.{Entry, number, devices, info, Line, call, answers, nothing, locked, request}
 use Rattle.arith.specs.Bounded as Bounded
 use Rattle.arith.specs.FirstNo as FirstNo

@@ -2,7 +2,7 @@
 use Rattle.std.specs.Prelude.{ℕ, ◌≡◌, refl, List, [], ◌∷◌}
 use Rattle.memory.specs.declared.JobType.{JobType}
 use Rattle.memory.specs.declared.JobType.TheVariants.{Write, Read, Compare, Erase, BlankCheck, Lock}
-use Rattle.plan.specs.runs.Examples.{plan_t}
+use Rattle.plan.proofs.runs.Examples.{plan_t}
 use Rattle.plan.specs.declared.records.Plan.{Plan}
 use Rattle.segment.specs.declared.Segment.{Segment}
 use Rattle.arith.specs.Bounded as Bounded
@@ -16,7 +16,7 @@ use Rattle.segment.specs.Mapping as Mapping
 use Rattle.segment.specs.Segments as Segments
 use Rattle.rules.specs.Admission as Admission
 use Rattle.rules.specs.History as History
-use Rattle.rules.specs.runs.InfoRuns.{task}
+use Rattle.rules.proofs.runs.InfoRuns.{task}
 
 abbrev pub t : Plan
 t = Records.plan_of plan_t

@@ -3,7 +3,7 @@
 use Rattle.std.specs.Prelude.{◌≡◌, refl, true, List, [], ◌∷◌, replicate}
 use Rattle.memory.specs.declared.DeviceAnswer.TheVariants.{Pending, Done, Failed}
 use Rattle.memory.specs.declared.JobType.TheVariants.{Write}
-use Rattle.plan.specs.runs.Examples.{plan_t}
+use Rattle.plan.proofs.runs.Examples.{plan_t}
 use Rattle.arith.specs.Bounded as Bounded
 use Rattle.arith.specs.FirstNo as FirstNo
 use Rattle.arith.specs.Listed as Listed

@@ -3,10 +3,10 @@ use Rattle.std.specs.Prelude.{◌≡◌, refl, List, [], ◌∷◌, ◌++◌}
 use Rattle.memory.specs.declared.DeviceAnswer.{DeviceAnswer}
 use Rattle.memory.specs.declared.DeviceAnswer.TheVariants.{Pending, Done, Failed}
 use Rattle.memory.specs.declared.JobType.TheVariants.{NoJob, Write, Read, Compare, Erase, Lock}
-use Rattle.plan.specs.runs.Examples.{plan_t, plan_e}
+use Rattle.plan.proofs.runs.Examples.{plan_t, plan_e}
 use Rattle.rules.specs.History.{Call, cancels}
 use Rattle.rules.specs.Queries.{no_request}
-use Rattle.rules.specs.runs.InfoRuns.{plan_q, task, round, job, asked, counts, request, info, memory_number, memory_asked, granularity, memory, unlike}
+use Rattle.rules.proofs.runs.InfoRuns.{plan_q, task, round, job, asked, counts, request, info, memory_number, memory_asked, granularity, memory, unlike}
 use Rattle.arith.specs.Bounded as Bounded
 use Rattle.arith.specs.FirstNo as FirstNo
 use Rattle.arith.specs.Multiples as Multiples

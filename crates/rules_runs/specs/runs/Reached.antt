@@ -4,7 +4,7 @@ use Rattle.std.proofs.Common.{sym, subst, arith}
 use Rattle.memory.specs.declared.DeviceAnswer.{DeviceAnswer}
 use Rattle.memory.specs.declared.DeviceAnswer.TheVariants.{Pending, Done}
 use Rattle.memory.specs.declared.JobType.TheVariants.{Read, Erase}
-use Rattle.plan.specs.runs.Examples.{marked_device, area, sub_area, sizes}
+use Rattle.plan.proofs.runs.Examples.{marked_device, area, sub_area, sizes}
 use Rattle.plan.specs.declared.records.Plan.{Plan}
 use Rattle.arith.specs.Bounded as Bounded
 use Rattle.arith.specs.Bounded.{below_suc}
@@ -26,7 +26,7 @@ use Rattle.rules.specs.statements.Statements.{Differ, ReachedOn, BoundsReached, 
 use Rattle.rules.specs.Round as Round
 use Rattle.rules.specs.History as History
 use Rattle.rules.specs.History.{Call}
-use Rattle.rules.specs.runs.InfoRuns.{round, job}
+use Rattle.rules.proofs.runs.InfoRuns.{round, job}
 
 -- Two devices with this second byte of their marks: device 0 of limit 2, device 1 of limit 3. Four areas, ranked by their numbers, each with a sector on device 1
 -- and, but for area 3, one on device 0 behind it; area 2 has an erase retry on device 1, and two sectors on device 0.

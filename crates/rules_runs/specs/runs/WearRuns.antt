@@ -2,7 +2,7 @@
 use Rattle.std.specs.Prelude.{ℕ, ◌≡◌, refl, List, [], ◌∷◌, ◌++◌, replicate}
 use Rattle.memory.specs.declared.DeviceAnswer.TheVariants.{Pending, Done, Failed}
 use Rattle.memory.specs.declared.JobType.TheVariants.{Read, Erase}
-use Rattle.plan.specs.runs.Examples.{plan_t, plan_e, wear}
+use Rattle.plan.proofs.runs.Examples.{plan_t, plan_e, wear}
 use Rattle.rules.specs.Session.{Bench, number, devices, Line, answers, nothing, request}
 use Rattle.rules_runs.specs.runs.ClosedRuns.{job, cancel}
 use Rattle.arith.specs.Bounded as Bounded

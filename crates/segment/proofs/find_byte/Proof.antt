@@ -53,8 +53,8 @@ use Rattle.plan.specs.declared.records.SubAreaRecord.{SubAreaRecord}
 use Rattle.plan.specs.contracts.records.SubAreaRecord as T
 use Rattle.plan.proofs.records.SubAreaRecord.TheLaws as T'
 use Rattle.segment.specs.Mapping.{find}
-use Rattle.segment.specs.laws.LookupLaws.{find_front}
-use Rattle.segment.specs.laws.Walks.{local_type, here, value, answered}
+use Rattle.segment.proofs.laws.LookupLaws.{find_front}
+use Rattle.segment.proofs.laws.Walks.{local_type, here, value, answered}
 use Rattle.segment.specs.declared.Found.{Found}
 use Rattle.segment.specs.contracts.Found as F
 use Rattle.segment.proofs.Found.TheLaws as F'

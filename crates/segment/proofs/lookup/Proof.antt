@@ -50,9 +50,9 @@ use Rattle.plan.specs.Questions.{sub_area_of}
 use Rattle.plan.specs.declared.records.SubAreaRecord.{SubAreaRecord}
 use Rattle.plan.specs.contracts.records.SubAreaRecord as T
 use Rattle.plan.proofs.records.SubAreaRecord.TheLaws as T'
-use Rattle.segment.specs.laws.Lookup.{met, next_of, outcome_of, seek_to}
-use Rattle.segment.specs.laws.LookupLaws.{seek_finds, seek_jumps, next_far, next_few}
-use Rattle.segment.specs.laws.Walks.{local_type, here, value, answered, counted}
+use Rattle.segment.proofs.laws.Lookup.{met, next_of, outcome_of, seek_to}
+use Rattle.segment.proofs.laws.LookupLaws.{seek_finds, seek_jumps, next_far, next_few}
+use Rattle.segment.proofs.laws.Walks.{local_type, here, value, answered, counted}
 use Rattle.segment.specs.declared.Seek.{Seek}
 use Rattle.segment.specs.declared.Found.{Found}
 use Rattle.segment.specs.contracts.Seek as S

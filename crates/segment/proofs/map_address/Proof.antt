@@ -1,6 +1,6 @@
 use native.Mathlib.Nat.{add-zero}
 use mathlib.Core.Path.{◌∙◌}
-use Rattle.segment.specs.laws.Found.{located_mapped}
+use Rattle.segment.proofs.laws.Found.{located_mapped}
 use borrow.Author.Rules.{rules}
 use Rattle.segment.proofs.map_address.Statement.{statement}
 use Rattle.segment.proofs.map_address.Tie as tie

@@ -1,5 +1,5 @@
 use mathlib.Core.Path.{◌∙◌}
-use Rattle.segment.specs.laws.Found.{segment_from_lem}
+use Rattle.segment.proofs.laws.Found.{segment_from_lem}
 use borrow.Author.Rules.{rules}
 use Rattle.segment.proofs.segment_at.Statement.{statement}
 use Rattle.segment.proofs.segment_at.Tie as tie

@@ -2,7 +2,7 @@ use Rattle.segment.specs.Segments.{segment_of}
 use mathlib.Core.Path.{◌∙◌, ap}
 use Prim.Native.Nat.{◌+◌, ◌-◌}
 use native.Mathlib.Omega.{arith}
-use Rattle.segment.specs.laws.Found.{index_within, offset_inside, if_found}
+use Rattle.segment.proofs.laws.Found.{index_within, offset_inside, if_found}
 use borrow.Author.Rules.{rules}
 use Rattle.segment.proofs.segment_from.Statement.{statement}
 use Rattle.segment.proofs.segment_from.Tie as tie

@@ -1,4 +1,4 @@
-use Rattle.segment.specs.laws.Found.{segment_there}
+use Rattle.segment.proofs.laws.Found.{segment_there}
 use borrow.Author.Rules.{rules}
 use Rattle.segment.proofs.segment_in.Statement.{statement}
 use Rattle.segment.proofs.segment_in.Tie as tie

@@ -4,7 +4,7 @@ use borrow.Author.Tests.{eq-eqb, lt-ltb, le-ltb}
 use Rattle.std.proofs.Common.{length-append, arith}
 use Rattle.manager.specs.Load.{fresh_manager, loaded_manager}
 use Rattle.manager.specs.declared.Manager.{Manager}
-use Rattle.plan.specs.laws.Accepted.{accepted}
+use Rattle.plan.proofs.laws.Accepted.{accepted}
 use Rattle.plan.specs.Records.{plan_of}
 use Rattle.plan.specs.Questions.{length_sum, load_number}
 use Rattle.texts.specs.Appended.{Appended}

@@ -3,7 +3,7 @@ use mathlib.Core.Logic.{⊎_elim}
 use mathlib.Core.Path.{◌≡◌, refl, ap, ◌∙◌}
 use native.Mathlib.Omega.{arith}
 use Rattle.wear.specs.Wear.{add_worn}
-use Rattle.wear.specs.laws.WearLaws.{add_set, add_left, add_more}
+use Rattle.wear.proofs.laws.WearLaws.{add_set, add_left, add_more}
 use borrow.Author.Rules.{rules}
 use Rattle.wear.proofs.add_worn.Statement.{statement}
 use Rattle.wear.proofs.add_worn.Tie as tie

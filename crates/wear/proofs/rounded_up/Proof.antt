@@ -1,7 +1,7 @@
 use native.Mathlib.Omega.{arith}
 use borrow.Author.Tests.{eq-eqb, ne_eqb}
 use Rattle.wear.specs.Wear.{rounded_up}
-use Rattle.wear.specs.laws.WearLaws.{up_fits}
+use Rattle.wear.proofs.laws.WearLaws.{up_fits}
 use borrow.Author.Rules.{rules}
 use Rattle.wear.proofs.rounded_up.Statement.{statement}
 use Rattle.wear.proofs.rounded_up.Tie as tie

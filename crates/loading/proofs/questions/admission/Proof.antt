@@ -1,6 +1,6 @@
 use mathlib.Core.Path.{sym, ◌∙◌}
 use native.Mathlib.Omega.{arith}
-use Rattle.plan.specs.laws.SizeLaws.{counts, size_few}
+use Rattle.plan.proofs.laws.SizeLaws.{counts, size_few}
 use borrow.Author.Tests.{not-false, not-true}
 use Rattle.loading.proofs.questions.admission.Statement.{statement}
 use Rattle.loading.proofs.questions.admission.Tie as tie

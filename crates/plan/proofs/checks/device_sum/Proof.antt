@@ -3,7 +3,7 @@ use mathlib.Core.Path.{◌≡◌, refl, ap, ◌∙◌}
 use native.Mathlib.Omega.{arith}
 use borrow.Author.Rules.{rules}
 use Rattle.plan.specs.Questions.{length_sum}
-use Rattle.plan.specs.laws.SizeLaws.{length_more}
+use Rattle.plan.proofs.laws.SizeLaws.{length_more}
 use Rattle.plan.proofs.checks.device_sum.Statement.{statement}
 use Rattle.plan.proofs.checks.device_sum.Tie as tie
 use Rattle.plan.proofs.checks.device_sum.Reads as reads

@@ -4,7 +4,7 @@ use native.Mathlib.Omega.{arith}
 use native.Mathlib.Nat.{sub-zero, add-zero}
 use borrow.Author.Rules.{rules}
 use Rattle.plan.specs.Number.{number_at}
-use Rattle.plan.specs.laws.NumberLaws.{number_none, number_more, power_none, power_more, power_seven}
+use Rattle.plan.proofs.laws.NumberLaws.{number_none, number_more, power_none, power_more, power_seven}
 use Rattle.plan.proofs.number.number_at.Statement.{statement}
 use Rattle.plan.proofs.number.number_at.Tie as tie
 use Rattle.plan.proofs.number.number_at.Reads as reads

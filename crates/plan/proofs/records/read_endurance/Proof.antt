@@ -5,7 +5,7 @@ use native.Mathlib.Omega.{arith}
 use borrow.Author.Rules.{rules}
 use Rattle.arith.specs.Tables.{table}
 use Rattle.plan.specs.Records.{wear_at, endurance_by}
-use Rattle.plan.specs.laws.WearLaws.{endurance_set, endurance_past}
+use Rattle.plan.proofs.laws.WearLaws.{endurance_set, endurance_past}
 use Rattle.plan.proofs.records.read_endurance.Statement.{statement}
 use Rattle.plan.proofs.records.read_endurance.Tie as tie
 use Rattle.plan.proofs.records.read_endurance.Reads as reads

@@ -1,6 +1,6 @@
 use borrow.Author.Tests.{eq-eqb, ne_eqb}
 use Rattle.arith.specs.Bounded.{some}
-use Rattle.plan.specs.laws.RecordLaws.{among_last}
+use Rattle.plan.proofs.laws.RecordLaws.{among_last}
 use borrow.Author.Rules.{rules}
 use Rattle.plan.proofs.scan.is_among.Statement.{statement}
 use Rattle.plan.proofs.scan.is_among.Tie as tie

@@ -1,6 +1,6 @@
 use borrow.Author.Tests.{le-leb, lt-leb, ne_eqb}
 use Rattle.plan.specs.Records.{is_record}
-use Rattle.plan.specs.laws.RecordLaws.{record_second}
+use Rattle.plan.proofs.laws.RecordLaws.{record_second}
 use lib.ListN.{length}
 use native.Mathlib.Omega.{arith}
 use Prim.Native.Nat.{◌+◌}

@@ -1,4 +1,4 @@
-use Rattle.plan.specs.laws.RecordLaws.{layout_is}
+use Rattle.plan.proofs.laws.RecordLaws.{layout_is}
 use borrow.Author.Rules.{rules}
 use Rattle.plan.proofs.scan.record_layout.Statement.{statement}
 use Rattle.plan.proofs.scan.record_layout.Tie as tie

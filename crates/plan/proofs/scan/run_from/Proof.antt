@@ -6,7 +6,7 @@ use native.Mathlib.Numerals.{add-one}
 use borrow.Author.Rules.{rules}
 use lib.ListN.{length}
 use Rattle.plan.specs.Records.{records_up_to, records_from}
-use Rattle.plan.specs.laws.RecordLaws.{record_fits, run_more, run_end}
+use Rattle.plan.proofs.laws.RecordLaws.{record_fits, run_more, run_end}
 use Rattle.plan.proofs.scan.run_from.Statement.{statement}
 use Rattle.plan.proofs.scan.run_from.Tie as tie
 use Rattle.plan.proofs.scan.run_from.Reads as reads

@@ -1,4 +1,4 @@
-use Rattle.plan.specs.laws.WearLaws.{unknown, endures_nothing, known_once}
+use Rattle.plan.proofs.laws.WearLaws.{unknown, endures_nothing, known_once}
 use borrow.Author.Rules.{rules}
 use Rattle.plan.proofs.wear.wear_record_fits.Statement.{statement}
 use Rattle.plan.proofs.wear.wear_record_fits.Tie as tie
