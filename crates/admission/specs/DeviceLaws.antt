@@ -12,9 +12,9 @@ use Rattle.plan.specs.Questions.{area_of, area_size, sub_area_of, size_of}
 use Rattle.plan.specs.declared.records.Plan.{Plan}
 use Rattle.plan.specs.declared.records.SubAreaRecord.{SubAreaRecord}
 use Rattle.rules.specs.Admission.{is_inside, lock_task, on_one_device}
-use Rattle.segment.proofs.laws.CutLaws.{segments_end, cut_next}
-use Rattle.segment.proofs.laws.MappingLaws.{place_of}
-use Rattle.segment.proofs.laws.SegmentLaws.{segment_is}
+use Rattle.segment.specs.laws.CutLaws.{segments_end, cut_next}
+use Rattle.segment.specs.laws.MappingLaws.{place_of}
+use Rattle.segment.specs.laws.SegmentLaws.{segment_is}
 use Rattle.segment.specs.Segments.{segment_length, segment_at, segments_from, spans, spans_after}
 
 -- a part of a lock's range is all that is left of it in the sub-area

@@ -17,9 +17,9 @@ use Rattle.plan.specs.Questions.{area_of, sub_area_of, area_size}
 use Rattle.plan.specs.declared.records.Plan.{Plan}
 use Rattle.plan.specs.declared.records.SubAreaRecord.{SubAreaRecord}
 use Rattle.rules.specs.Admission.{is_inside, starts_on_unit, ends_on_unit, is_aligned}
-use Rattle.segment.proofs.laws.Found.{index_of, Inside, segment_if, index_within, offset_inside, if_found, located_mapped}
+use Rattle.segment.specs.laws.Found.{index_of, Inside, segment_if, index_within, offset_inside, if_found, located_mapped}
 use Rattle.segment.specs.Mapping.{located, mapped}
-use Rattle.segment.proofs.laws.MappingLaws.{Place, mapped_place, place_mapped, place_of, place_before_end}
+use Rattle.segment.specs.laws.MappingLaws.{Place, mapped_place, place_mapped, place_of, place_before_end}
 use Rattle.segment.specs.Segments.{is_lock, unit_of, retries_of, segment_of, segment_at}
 use Rattle.segment.specs.declared.Found.{Found}
 use Rattle.segment.specs.declared.Found.TheVariants.{Outside, At}

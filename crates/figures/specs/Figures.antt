@@ -7,7 +7,7 @@ use Rattle.plan.specs.declared.records.Plan.{Plan}
 use Rattle.rules.specs.Layout.{layout_of, most_below}
 use Rattle.segment.specs.Segments.{is_lock, segment_at, segments_from, spans, own_bound, below_bound}
 use Rattle.segment.specs.declared.Segment.{Segment}
-use Rattle.segment.proofs.laws.SegmentLaws.{Admitted}
+use Rattle.segment.specs.laws.SegmentLaws.{Admitted}
 use Rattle.figures.specs.declared.Bounds.{Bounds}
 
 -- an admitted job of an accepted plan

@@ -3,7 +3,7 @@
 ghost use Rattle.std.specs.Prelude.{◌∷◌, ◌≡◌, ◌+◌, ◌*◌, ◌≤◌, ◌<◌};
 ghost use Rattle.plan.specs.Questions.{device_of};
 ghost use Rattle.segment.specs.Segments.{span_most, segment_at, segments_from};
-ghost use Rattle.segment.proofs.laws.CutLaws.{Cut};
+ghost use Rattle.segment.specs.laws.CutLaws.{Cut};
 ghost use Rattle.figures.specs.Figures.{Audited, bounds_of, factor_of};
 ghost use Rattle.figures.specs.Ranges.{ranges_of};
 ghost use Rattle.figures.specs.laws.BoundLaws.{bounds_more, all_bounds};

@@ -7,7 +7,7 @@ use Rattle.memory.specs.declared.Task.{Task}
 use Rattle.plan.specs.declared.records.Plan.{Plan}
 use Rattle.rows.specs.declared.Row.{Row}
 use Rattle.segment.specs.Segments.{is_lock, segment_at, segments_from}
-use Rattle.segment.proofs.laws.CutLaws as Cuts
+use Rattle.segment.specs.laws.CutLaws as Cuts
 use Rattle.job_rows.specs.JobRows.{refused_row, image_rows, no_image_row, window_row, stretch_row, cut_rows, foot_rows, segment_rows, job_rows}
 use Rattle.job_rows.specs.declared.Cursor.{Cursor}
 use Rattle.job_rows.specs.declared.Cursor.TheVariants.{Head, Refused, Image, Window, Cut, Foot, End}

@@ -10,7 +10,7 @@ use Rattle.plan.specs.declared.records.SubAreaRecord.{SubAreaRecord}
 use Rattle.segment.specs.Segments.{segment_at}
 use Rattle.segment.specs.declared.Found.{Found}
 use Rattle.segment.specs.declared.Found.TheVariants.{Outside, At}
-use Rattle.segment.proofs.laws.Found.{segment_if}
+use Rattle.segment.specs.laws.Found.{segment_if}
 use Rattle.loops.specs.Repeated.{total}
 
 -- 1 where address i is a multiple of size i

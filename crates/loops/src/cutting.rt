@@ -4,7 +4,7 @@ ghost use Rattle.arith.specs.Cases.{pick};
 ghost use Rattle.manager.specs.Load.{loaded_manager};
 ghost use Rattle.loops.specs.Repeated.{task_of};
 ghost use Rattle.loops.specs.Cutting.{multiple_count, processed_next, cut_total, place_in, placed_total};
-ghost use Rattle.segment.proofs.laws.Found.{Inside};
+ghost use Rattle.segment.specs.laws.Found.{Inside};
 
 use crate::in_place::task_of;
 use manager::Manager;

@@ -20,7 +20,7 @@ use Rattle.rules.specs.Layout.{Layout, layout_of}
 use Rattle.rules.specs.Machine.{Core, Verdict, goes_on, finished, differs, failed, due, doing, set_both, job_failed, job_finished, job_differs, after_finished, is_cancelling, is_pending, take_running}
 use Rattle.rules.specs.Memory.{Memory, agrees, verdict_of, answered_memory}
 use Rattle.rules.specs.Round.{window_place, clears_only}
-use Rattle.segment.proofs.laws.Found.{segment_from, segment_from_lem}
+use Rattle.segment.specs.laws.Found.{segment_from, segment_from_lem}
 use Rattle.segment.specs.Segments.{no_segment, segment_at}
 use Rattle.segment.specs.declared.Segment.{Segment}
 use Rattle.state.specs.declared.DeviceState.{DeviceState}

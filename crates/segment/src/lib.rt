@@ -3,9 +3,9 @@
 ghost use Rattle.std.specs.Prelude.{◌≡◌, ◌+◌, ◌-◌, ◌≤◌, ◌<◌, min, length};
 ghost use Rattle.plan.specs.Questions.{size_of};
 ghost use Rattle.segment.specs.Mapping.{find, located, mapped};
-ghost use Rattle.segment.proofs.laws.Lookup.{met, next_of, outcome_of};
+ghost use Rattle.segment.specs.laws.Lookup.{met, next_of, outcome_of};
 ghost use Rattle.segment.specs.Segments.{is_lock, is_erase, unit_of, retries_of, burst_or_unit, segment_length, segment_in, no_segment, segment_at};
-ghost use Rattle.segment.proofs.laws.Found.{index_of, Inside, segment_if, segment_from};
+ghost use Rattle.segment.specs.laws.Found.{index_of, Inside, segment_if, segment_from};
 
 use memory::{JobType, LogicalAddress, MemAddress, Task};
 use multiples::is_multiple;

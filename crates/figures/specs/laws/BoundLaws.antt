@@ -9,8 +9,8 @@ use Rattle.rules.specs.Layout.{layout_of, most_below}
 use Rattle.rules.proofs.laws.Requests.{device_end_lem}
 use Rattle.segment.specs.Segments.{is_lock, span_most, segment_at, segments_from, spans_after, spans, own_sum, below_sum, own_bound, below_bound}
 use Rattle.segment.specs.declared.Segment.{Segment}
-use Rattle.segment.proofs.laws.CutLaws.{Cut, at_end, segments_end}
-use Rattle.segment.proofs.laws.SegmentLaws.{Good, segments_next, segment_good, segment_device}
+use Rattle.segment.specs.laws.CutLaws.{Cut, at_end, segments_end}
+use Rattle.segment.specs.laws.SegmentLaws.{Good, segments_next, segment_good, segment_device}
 use Rattle.figures.specs.Figures.{Audited, bounds_of}
 use Rattle.figures.specs.declared.Bounds.{Bounds}
 

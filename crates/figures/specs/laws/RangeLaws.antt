@@ -8,7 +8,7 @@ use Rattle.memory.specs.declared.Task.{Task}
 use Rattle.plan.specs.declared.records.Plan.{Plan}
 use Rattle.segment.specs.Segments.{segment_at, segments_from}
 use Rattle.segment.specs.declared.Segment.{Segment}
-use Rattle.segment.proofs.laws.CutLaws.{Cut, segments_end}
+use Rattle.segment.specs.laws.CutLaws.{Cut, segments_end}
 use Rattle.figures.specs.Figures.{Audited}
 use Rattle.figures.specs.Ranges.{range_of, with_segment, ranges_after, ranges_of}
 use Rattle.figures.specs.declared.Range.{Range}

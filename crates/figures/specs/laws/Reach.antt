@@ -13,8 +13,8 @@ use Rattle.plan.specs.declared.records.Plan.{Plan}
 use Rattle.segment.specs.Bytes.{bytes_of, mapped_byte, mapped_bytes}
 use Rattle.segment.specs.Segments.{segment_at, segments_from}
 use Rattle.segment.specs.declared.Segment.{Segment}
-use Rattle.segment.proofs.laws.BytesLaws.{segment_bytes}
-use Rattle.segment.proofs.laws.CutLaws.{Cut, at_start, segments_end}
+use Rattle.segment.specs.laws.BytesLaws.{segment_bytes}
+use Rattle.segment.specs.laws.CutLaws.{Cut, at_start, segments_end}
 use Rattle.figures.specs.Figures.{Audited}
 use Rattle.figures.specs.Ranges.{range_of, adjoins, with_segment, ranges_after, ranges_of, Inside, RangesExact}
 use Rattle.figures.specs.declared.Range.{Range}

@@ -17,7 +17,7 @@ use Rattle.rows.specs.declared.Row.{Row}
 use Rattle.rows.specs.laws.WrittenLaws.{written_more}
 use Rattle.segment.specs.Segments.{is_lock, segment_at, segments_from}
 use Rattle.segment.specs.declared.Segment.{Segment}
-use Rattle.segment.proofs.laws.CutLaws.{at_start, segments_end}
+use Rattle.segment.specs.laws.CutLaws.{at_start, segments_end}
 use Rattle.texts.specs.Appended.{Appended}
 use Rattle.job_rows.specs.JobRows.{head_row, refused_row, image_row, image_rows, no_image_row, window_row, stretch_row, segment_row, cut_rows, foot_rows, job_rows}
 use Rattle.job_rows.specs.Cursors.{rows_left, AtSegment, AtRow, Ready, is_end, Fits}

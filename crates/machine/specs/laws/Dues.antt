@@ -13,7 +13,7 @@ use Rattle.plan.specs.declared.records.DeviceRecord.{DeviceRecord}
 use Rattle.plan.specs.declared.records.Plan.{Plan}
 use Rattle.plan.specs.declared.records.SubAreaRecord.{SubAreaRecord}
 use Rattle.rules.specs.Machine.{is_pending}
-use Rattle.segment.proofs.laws.Found.{index_of, Inside, segment_if, index_within, offset_inside, if_found, segment_from_lem}
+use Rattle.segment.specs.laws.Found.{index_of, Inside, segment_if, index_within, offset_inside, if_found, segment_from_lem}
 use Rattle.segment.specs.Mapping.{located}
 use Rattle.segment.specs.Segments.{no_segment, segment_at, segment_of}
 use Rattle.segment.specs.declared.Found.{Found}

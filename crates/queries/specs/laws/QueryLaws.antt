@@ -16,7 +16,7 @@ use Rattle.wear.specs.Wear.{charge_of}
 use Rattle.rules.specs.Queries.{no_request, request_on, no_memory_info, memory_info_in, memory_info_at, memory_info_of}
 use Rattle.segment.specs.Mapping.{mapped}
 use Rattle.segment.specs.Segments.{segment_at}
-use Rattle.segment.proofs.laws.MappingLaws.{mapped_place}
+use Rattle.segment.specs.laws.MappingLaws.{mapped_place}
 use Rattle.segment.specs.declared.Found.{Found}
 use Rattle.segment.specs.declared.Found.TheVariants.{Outside, At}
 use Rattle.segment.specs.declared.Segment.{Segment}

@@ -29,7 +29,7 @@ use Rattle.rules.specs.Round.{Half, answer_for, verdict_on, verdict_in, take_all
 use Rattle.rules.specs.Wear.{sectors_of, wear_after}
 use Rattle.segment.specs.Segments.{is_erase, no_segment, segment_at}
 use Rattle.segment.specs.declared.Segment.{Segment}
-use Rattle.segment.proofs.laws.Found.{sub_area_room, sector_kept}
+use Rattle.segment.specs.laws.Found.{sub_area_room, sector_kept}
 use Rattle.state.specs.declared.Area.{Area}
 use Rattle.state.specs.declared.Device.{Device}
 use Rattle.state.specs.declared.DeviceState.{DeviceState}

@@ -12,7 +12,7 @@ use Rattle.plan.specs.Questions.{area_of}
 use Rattle.plan.specs.WellFormed.{Among, WellFormed}
 use Rattle.plan.specs.declared.records.Plan.{Plan}
 use Rattle.segment.specs.Bytes.{bytes_of, mapped_byte, mapped_bytes}
-use Rattle.segment.proofs.laws.BytesLaws.{segment_bytes}
+use Rattle.segment.specs.laws.BytesLaws.{segment_bytes}
 use Rattle.segment.specs.declared.Segment.{Segment}
 use Rattle.state.specs.declared.DeviceState.TheVariants.{Runs}
 use Rattle.rules.specs.Admission.{round_number, admits}

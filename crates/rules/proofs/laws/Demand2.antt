@@ -10,8 +10,8 @@ use Rattle.plan.specs.WellFormed.{WellFormed}
 use Rattle.plan.specs.declared.records.Plan.{Plan}
 use Rattle.segment.specs.Bytes.{joined, mapped_bytes}
 use Rattle.segment.specs.Segments.{segment_at}
-use Rattle.segment.proofs.laws.BytesLaws.{mapped_once}
-use Rattle.segment.proofs.laws.CutLaws.{segments_end}
+use Rattle.segment.specs.laws.BytesLaws.{mapped_once}
+use Rattle.segment.specs.laws.CutLaws.{segments_end}
 use Rattle.state.specs.declared.DeviceState.TheVariants.{Runs}
 use Rattle.rules.specs.Admission.{job_number, cancel_number, round_number, admits}
 use Rattle.rules.specs.History.{submit, cancels, round, no_tally, History, lent, submitted, step}

@@ -9,9 +9,9 @@ use Rattle.memory.specs.declared.Task.{Task}
 use Rattle.plan.specs.WellFormed.{WellFormed}
 use Rattle.plan.specs.declared.records.Plan.{Plan}
 use Rattle.segment.specs.Bytes.{joined, mapped_bytes}
-use Rattle.segment.proofs.laws.BytesLaws.{joined_more, mapped_more, segment_bytes}
-use Rattle.segment.proofs.laws.CutLaws.{Cut, at_start, at_end}
-use Rattle.segment.proofs.laws.SegmentLaws.{Admitted, segment_good, segments_next}
+use Rattle.segment.specs.laws.BytesLaws.{joined_more, mapped_more, segment_bytes}
+use Rattle.segment.specs.laws.CutLaws.{Cut, at_start, at_end}
+use Rattle.segment.specs.laws.SegmentLaws.{Admitted, segment_good, segments_next}
 use Rattle.segment.specs.Segments.{is_lock, segment_at, segments_from}
 use Rattle.segment.specs.declared.Segment.{Segment}
 use Rattle.state.specs.declared.Job.{Job}

@@ -13,8 +13,8 @@ use Rattle.memory.specs.declared.Task.{Task}
 use Rattle.plan.specs.WellFormed.{WellFormed}
 use Rattle.plan.specs.declared.records.Plan.{Plan}
 use Rattle.segment.specs.Bytes.{joined, mapped_bytes}
-use Rattle.segment.proofs.laws.CutLaws.{at_start}
-use Rattle.segment.proofs.laws.SegmentLaws.{Admitted}
+use Rattle.segment.specs.laws.CutLaws.{at_start}
+use Rattle.segment.specs.laws.SegmentLaws.{Admitted}
 use Rattle.segment.specs.declared.Segment.{Segment}
 use Rattle.state.specs.declared.DeviceState.TheVariants.{Runs}
 use Rattle.state.specs.declared.Job.{Job}

@@ -19,8 +19,8 @@ use Rattle.plan.specs.Questions.{sub_area_of}
 use Rattle.plan.specs.WellFormed.{WellFormed}
 use Rattle.plan.specs.declared.records.Plan.{Plan}
 use Rattle.plan.specs.declared.records.SubAreaRecord.{SubAreaRecord}
-use Rattle.segment.proofs.laws.MappingLaws.{address_in, Place, place_mapped}
-use Rattle.segment.proofs.laws.SegmentLaws.{Admitted, job_place, segment_is}
+use Rattle.segment.specs.laws.MappingLaws.{address_in, Place, place_mapped}
+use Rattle.segment.specs.laws.SegmentLaws.{Admitted, job_place, segment_is}
 use Rattle.segment.specs.Segments.{is_lock, retries_of}
 use Rattle.state.specs.declared.DeviceState.TheVariants.{Runs}
 use Rattle.state.specs.declared.Job.{Job}

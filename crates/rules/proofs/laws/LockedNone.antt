@@ -14,7 +14,7 @@ use Rattle.memory.specs.declared.Task.{Task}
 use Rattle.plan.specs.Questions.{sub_area_of}
 use Rattle.plan.specs.declared.records.Plan.{Plan}
 use Rattle.segment.specs.Segments.{is_lock, is_erase}
-use Rattle.segment.proofs.laws.SegmentLaws.{job_place, segment_is}
+use Rattle.segment.specs.laws.SegmentLaws.{job_place, segment_is}
 use Rattle.state.specs.declared.Device.{Device}
 use Rattle.state.specs.declared.DeviceState.{DeviceState}
 use Rattle.state.specs.declared.DeviceState.TheVariants.{Free, Runs, LockedFor}

@@ -12,9 +12,9 @@ use Rattle.plan.specs.WellFormed.{WellFormed}
 use Rattle.plan.specs.declared.records.Granularity.{Granularity}
 use Rattle.plan.specs.declared.records.Plan.{Plan}
 use Rattle.plan.specs.declared.records.SubAreaRecord.{SubAreaRecord}
-use Rattle.segment.proofs.laws.CutLaws.{Cut, at_start, at_end, segments_end}
-use Rattle.segment.proofs.laws.MappingLaws.{address_in, place_mapped}
-use Rattle.segment.proofs.laws.SegmentLaws.{Admitted, job_place, segment_is, segment_good, segments_next}
+use Rattle.segment.specs.laws.CutLaws.{Cut, at_start, at_end, segments_end}
+use Rattle.segment.specs.laws.MappingLaws.{address_in, place_mapped}
+use Rattle.segment.specs.laws.SegmentLaws.{Admitted, job_place, segment_is, segment_good, segments_next}
 use Rattle.segment.specs.Segments.{burst_or_unit, segment_length, segment_at, segments_from}
 use Rattle.rules.proofs.laws.JobLaws.{plan_retries_at}
 use Rattle.rules.specs.statements.Pieces.{BurstOrUnit, PieceAt, PiecesFrom}

@@ -14,10 +14,10 @@ use Rattle.plan.specs.WellFormed.{WellFormed}
 use Rattle.plan.specs.declared.records.Plan.{Plan}
 use Rattle.plan.specs.declared.records.SubAreaRecord.{SubAreaRecord}
 use Rattle.segment.specs.Mapping.{mapped}
-use Rattle.segment.proofs.laws.MappingLaws.{place_mapped}
-use Rattle.segment.proofs.laws.SegmentLaws.{Admitted, segment_some, segment_device}
+use Rattle.segment.specs.laws.MappingLaws.{place_mapped}
+use Rattle.segment.specs.laws.SegmentLaws.{Admitted, segment_some, segment_device}
 use Rattle.segment.specs.Segments.{is_lock, unit_of, segment_at}
-use Rattle.segment.proofs.laws.SpanLaws.{one_device}
+use Rattle.segment.specs.laws.SpanLaws.{one_device}
 use Rattle.segment.specs.declared.Found.TheVariants.{At}
 use Rattle.rules.specs.Admission.{is_inside, is_aligned, lock_task, on_one_device, range_device, if_asked, admits}
 use Rattle.rules.proofs.laws.Laws.{Laws}

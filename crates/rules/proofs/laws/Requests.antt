@@ -13,8 +13,8 @@ use Rattle.memory.specs.declared.Task.{Task}
 use Rattle.plan.specs.Questions.{device_of, area_of, sub_area_of, device_end, window_end, length_sum}
 use Rattle.plan.specs.WellFormed.{WellFormed}
 use Rattle.plan.specs.declared.records.Plan.{Plan}
-use Rattle.segment.proofs.laws.CutLaws.{Cut}
-use Rattle.segment.proofs.laws.SegmentLaws.{Admitted, Good, segment_good, segment_device}
+use Rattle.segment.specs.laws.CutLaws.{Cut}
+use Rattle.segment.specs.laws.SegmentLaws.{Admitted, Good, segment_good, segment_device}
 use Rattle.segment.specs.Segments.{segment_at}
 use Rattle.state.specs.declared.DeviceState.{DeviceState}
 use Rattle.state.specs.declared.DeviceState.TheVariants.{Free, Runs, LockedFor}

@@ -18,8 +18,8 @@ use Rattle.memory.specs.declared.Task.{Task}
 use Rattle.plan.specs.Questions.{area_of}
 use Rattle.plan.specs.WellFormed.{WellFormed}
 use Rattle.plan.specs.declared.records.Plan.{Plan}
-use Rattle.segment.proofs.laws.MappingLaws.{Place, place_mapped, place_inside}
-use Rattle.segment.proofs.laws.SegmentLaws.{job_place, segment_is, segment_inside}
+use Rattle.segment.specs.laws.MappingLaws.{Place, place_mapped, place_inside}
+use Rattle.segment.specs.laws.SegmentLaws.{job_place, segment_is, segment_inside}
 use Rattle.segment.specs.declared.Segment.{Segment}
 use Rattle.state.specs.declared.DeviceState.TheVariants.{Runs}
 use Rattle.state.specs.declared.Job.{Job}

@@ -4,7 +4,7 @@ use Rattle.std.proofs.Common.{mul-suc, arith}
 use Rattle.std.proofs.Math.Numerals.{add-one}
 use Rattle.arith.specs.Cases.{pick, by_eqb}
 use Rattle.memory.specs.declared.Task.{Task}
-use Rattle.segment.proofs.laws.CutLaws.{cut_next}
+use Rattle.segment.specs.laws.CutLaws.{cut_next}
 use Rattle.segment.specs.Segments.{segments_from, spans, spans_after, own_sum, below_sum}
 use Rattle.segment.specs.declared.Segment.{Segment}
 

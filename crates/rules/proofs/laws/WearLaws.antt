@@ -15,8 +15,8 @@ use Rattle.segment.specs.Mapping.{mapped}
 use Rattle.segment.specs.declared.Found.{Found}
 use Rattle.segment.specs.declared.Found.TheVariants.{Outside, At}
 use Rattle.segment.specs.declared.Segment.{Segment}
-use Rattle.segment.proofs.laws.Found.{index_within, located_mapped}
-use Rattle.segment.proofs.laws.SegmentLaws.{Good}
+use Rattle.segment.specs.laws.Found.{index_within, located_mapped}
+use Rattle.segment.specs.laws.SegmentLaws.{Good}
 use Rattle.wear.specs.Wear.{sectors_in, worn_to, charge_of}
 use Rattle.wear.proofs.laws.WearLaws.{worn_more}
 use Rattle.rules.specs.Wear.{sectors_of, worn_in, stuck_wear, wear_after, worn_at, wear_info_at, wear_info_of}

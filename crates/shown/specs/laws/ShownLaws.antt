@@ -13,7 +13,7 @@ use Rattle.memory.specs.Numbers.{job_type_number}
 use Rattle.rules.specs.Layout.{layout_of}
 use Rattle.rules.specs.Machine.{Core}
 use Rattle.rules.specs.Session.{Shown, shown_on, shown_to}
-use Rattle.segment.proofs.laws.Found.{segment_from, segment_from_lem}
+use Rattle.segment.specs.laws.Found.{segment_from, segment_from_lem}
 use Rattle.segment.specs.Segments.{segment_at}
 use Rattle.segment.specs.declared.Segment.{Segment}
 use Rattle.state.specs.declared.DeviceState.TheVariants.{Free, Runs, LockedFor}

@@ -1,0 +1,18 @@
+use mathlib.Core.Path.{refl}
+use borrow.Author.Rules.{rules}
+use Rattle.answers.proofs.take_answer.Goals as goal
+
+pub next_segment-next-requires : goal.next_segment-next-requires
+next_segment-next-requires c = let lent = rw c.in-Runs.is at c.requires.1 in (c.requires.0, lent.2)
+
+pub take_request-taken-requires : goal.take_request-taken-requires
+take_request-taken-requires c = let lent = rw c.in-Runs.is at c.requires.1 in lent
+
+pub returns-in-Free : goal.returns-in-Free
+returns-in-Free c = rw c.in-Free.is (refl, (refl, (refl, (refl, refl))))
+
+pub returns-in-LockedFor : goal.returns-in-LockedFor
+returns-in-LockedFor c = rw c.in-LockedFor.is (refl, (refl, (refl, (refl, refl))))
+
+pub returns-in-Runs : goal.returns-in-Runs
+returns-in-Runs c = let t = c.take_request-taken.ensures in rw (c.in-Runs.is, ← c.next_segment-next.ensures) ((λ i. record { job = t.0 i; waits = c.args.entry.waits }), (t.1.0, ((λ i. record { state = t.1.1.0 i; suspended = c.args.device.suspended }), (t.1.1.1.0, t.1.1.1.1))))

@@ -1,0 +1,6 @@
+use mathlib.Core.Path.{refl}
+use borrow.Author.Rules.{rules}
+use Rattle.audits.proofs.fill.Place.first.Goals as goal
+
+pub returns : goal.returns
+returns c = rw c.blank_facts-facts.ensures refl

@@ -1,0 +1,6 @@
+use mathlib.Core.Path.{◌∙◌}
+use borrow.Author.Rules.{rules}
+use Rattle.audits.proofs.number_of.Goals as goal
+
+pub returns : goal.returns
+returns c = c.number.ensures ∙ c.job_change-change.ensures.by_index c.args.manager.wear

@@ -1,0 +1,7 @@
+use Prim.Native.Nat.{◌-◌}
+use borrow.Author.Rules.{rules}
+use Rattle.bench_run.specs.laws.TurnLaws.{part_alike}
+use Rattle.bench_run.proofs.play_session.Goals as goal
+
+pub serve-requires : goal.serve-requires
+serve-requires c = (search rules, part_alike _ (c.«open».result.image_length - 0) 65536 255 c.first_image-image.ensures, c.first_store-store.ensures)

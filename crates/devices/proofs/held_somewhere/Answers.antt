@@ -1,0 +1,22 @@
+use borrow.Author.Rules.{rules}
+use native.Mathlib.Omega.{arith}
+use Prim.Native.Nat.{◌-◌, ◌≤◌}
+use mathlib.Core.Path.{◌≡◌, refl, sym, ap, ◌∙◌}
+use mathlib.Core.Bool.{false}
+use Rattle.arith.specs.Bounded.{some, some_intro, some_none}
+use Rattle.rules.specs.Machine.{holds}
+use Rattle.devices.specs.Arrays.{device_in}
+use Rattle.devices.proofs.held_somewhere.Goals as goal
+
+pub loop-d-init : goal.loop-d-init
+unfolding some
+loop-d-init c = (omega arith, refl)
+
+pub returns-then-holds : goal.returns-then-holds
+returns-then-holds c = sym (some_intro _ 4 c.loop-d.d (omega (arith, c.loop-d-test.true)) (sym c.holds.ensures ∙ c.if-holds.true))
+
+pub loop-d-preserved : goal.loop-d-preserved
+loop-d-preserved c = (omega (arith, c.loop-d-test.true), some_none _ _ c.loop-d.invariant.1 (sym c.holds.ensures ∙ c.if-holds.false))
+
+pub returns : goal.returns
+returns c = sym (ap (some _) (omega (arith, c.loop-d-test.false, c.loop-d.invariant.0)) ∙ c.loop-d.invariant.1)

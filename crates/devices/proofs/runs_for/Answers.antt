@@ -1,0 +1,5 @@
+use borrow.Author.Rules.{rules}
+use Rattle.devices.proofs.runs_for.Goals as goal
+
+pub returns-in-Runs : goal.returns-in-Runs
+returns-in-Runs c = rw c.in-Runs.is

@@ -1,0 +1,5 @@
+use borrow.Author.Rules.{rules}
+use Rattle.devices.proofs.suspended_for.Goals as goal
+
+pub returns-in-Erase : goal.returns-in-Erase
+returns-in-Erase c = rw c.in-Erase.is

@@ -1,0 +1,23 @@
+use native.Mathlib.Nat.{le_trans}
+use Prim.Native.Nat.{◌≤◌}
+use Rattle.effects.specs.Effects.{lent_less}
+use native.Mathlib.Omega.{arith}
+use borrow.Author.Rules.{rules}
+use Rattle.effects.proofs.take_effect.Goals as goal
+
+pub returns-then-finish : goal.returns-then-finish
+returns-then-finish c = (simp (c.if-finish.true, ← c.finish.ensures.value, ← c.finish.ensures.image_after.0, ← c.finish.ensures.image_after.1, c.in-Done.is), (simp (c.if-finish.true, ← c.finish.ensures.value, ← c.finish.ensures.image_after.0, ← c.finish.ensures.image_after.1, c.in-Done.is), simp (c.if-finish.true, ← c.finish.ensures.value, ← c.finish.ensures.image_after.0, ← c.finish.ensures.image_after.1, c.in-Done.is)))
+
+pub act_on_first-requires : goal.act_on_first-requires
+act_on_first-requires c = let e = c.least-acted.ensures in
+    let l : c.least-acted.result ≤ c.args.n = omega (arith, e) in
+    (omega (arith, c.requires.0, l), le_trans (lent_less c.args.kind c.args.window c.least-acted.result c.args.n l) c.requires.1)
+
+pub returns-in-Pending : goal.returns-in-Pending
+returns-in-Pending c = (simp c.in-Pending.is, (simp c.in-Pending.is, simp c.in-Pending.is))
+
+pub returns-else-finish : goal.returns-else-finish
+returns-else-finish c = (simp (c.if-finish.false, ← c.finish.ensures.value, ← c.finish.ensures.image_after.0, ← c.finish.ensures.image_after.1, c.in-Done.is), (simp (c.if-finish.false, ← c.finish.ensures.value, ← c.finish.ensures.image_after.0, ← c.finish.ensures.image_after.1, c.in-Done.is), simp (c.if-finish.false, ← c.finish.ensures.value, ← c.finish.ensures.image_after.0, ← c.finish.ensures.image_after.1, c.in-Done.is)))
+
+pub returns-in-Failed : goal.returns-in-Failed
+returns-in-Failed c = (simp (← c.act_on_first.ensures, ← c.least-acted.ensures, c.in-Failed.is), (simp (← c.act_on_first.ensures, ← c.least-acted.ensures, c.in-Failed.is), simp (← c.act_on_first.ensures, ← c.least-acted.ensures, c.in-Failed.is)))

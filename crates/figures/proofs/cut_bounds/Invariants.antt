@@ -1,0 +1,22 @@
+use lib.Dec.{eqb}
+use native.Mathlib.Omega.{arith}
+use Prim.Native.Nat.{◌-◌, ◌*◌, ◌≤◌}
+use mathlib.Core.Path.{◌≡◌, refl, sym, ◌∙◌}
+use Rattle.figures.specs.laws.BoundLaws.{bounds_after, all_bounds, more_few, device_few, segment_some, segment_fits_lem, next_cut_lem, bounds_turn, bounds_end}
+use Rattle.segment.specs.Segments.{segment_at, segments_from}
+use Rattle.segment.specs.laws.CutLaws.{Cut, at_start}
+use borrow.Author.Rules.{rules}
+use Rattle.figures.proofs.cut_bounds.Given as goal
+
+abbrev pub invariant-loop-x : goal.invariant-loop-x
+invariant-loop-x l = (l.x ≤ l.task.length)
+    × Cut (segment_at l.plan l.area l.task) l.task l.x
+    × (bounds_after l.plan l.last (segments_from (segment_at l.plan l.area l.task) l.task l.x) l.bounds ≡ all_bounds l.plan (segments_from (segment_at l.plan l.area l.task) l.task 0))
+    × (l.bounds.own ≤ 16776960 * l.x)
+    × (l.bounds.below ≤ 131068 * l.x)
+    × (l.bounds.segments ≤ l.x)
+    × (l.bounds.spans ≤ l.x)
+    × (l.task.length ≤ 4294967295)
+
+abbrev pub decreases-loop-x : goal.decreases-loop-x
+decreases-loop-x l = l.task.length - l.x

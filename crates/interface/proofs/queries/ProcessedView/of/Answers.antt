@@ -1,0 +1,5 @@
+use borrow.Author.Rules.{rules}
+use Rattle.interface.proofs.queries.ProcessedView.of.Goals as goal
+
+pub returns : goal.returns
+returns c = rw (c.number.ensures, c.processed-asked.ensures.answer_value, c.processed-asked.ensures.processed_value)

@@ -1,0 +1,5 @@
+use borrow.Author.Rules.{rules}
+use Rattle.interface.proofs.queries.ResultView.of.Goals as goal
+
+pub returns : goal.returns
+returns c = rw (c.number.ensures, c.result-asked.ensures.answer_value, c.result-asked.ensures.result_value)

@@ -1,0 +1,5 @@
+use borrow.Author.Rules.{rules}
+use Rattle.interface.proofs.queries.StatusView.of.Goals as goal
+
+pub returns : goal.returns
+returns c = rw (c.number.ensures, c.status-asked.ensures.answer_value, c.status-asked.ensures.status_value)

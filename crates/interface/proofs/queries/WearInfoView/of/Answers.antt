@@ -1,0 +1,6 @@
+use borrow.Author.Rules.{rules}
+use Rattle.interface.proofs.queries.WearInfoView.of.Goals as goal
+
+pub returns : goal.returns
+returns c = let m = c.wear_info-asked.ensures in
+    rw (c.number.ensures, m.0, m.1)

@@ -1,0 +1,21 @@
+use Prim.Native.Nat.{◌≤◌}
+use lib.ListN.{length}
+use mathlib.Core.Bool.{true≢false}
+use mathlib.Core.Path.{◌≡◌, refl, sym, ◌∙◌}
+use native.Mathlib.Omega.{arith}
+use borrow.Author.Rules.{rules}
+use Rattle.job_rows.specs.Cursors.{rows_left, Fits}
+use Rattle.job_rows.specs.laws.JobRowLaws.{row_written, one_less}
+use Rattle.rows.specs.Rows.{rows_text}
+use Rattle.rows.specs.Written.{Written}
+use Rattle.rows.specs.laws.WrittenLaws.{written_none}
+use Rattle.job_rows.proofs.print_job.Given as goal
+
+abbrev pub invariant-loop-end : goal.invariant-loop-end
+invariant-loop-end l = (length l.out ≡ length l.initial.out)
+    × (l.end ≤ length l.initial.out)
+    × Fits l.plan l.area l.task l.facts l.next
+    × Written l.initial.out l.out l.at l.end (rows_text (rows_left l.plan l.area l.task l.facts l.initial.next)) (rows_text (rows_left l.plan l.area l.task l.facts l.next))
+
+abbrev pub decreases-loop-end : goal.decreases-loop-end
+decreases-loop-end l = length (rows_left l.plan l.area l.task l.facts l.next)

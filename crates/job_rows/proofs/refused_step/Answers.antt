@@ -1,0 +1,6 @@
+use mathlib.Core.Path.{refl}
+use borrow.Author.Rules.{rules}
+use Rattle.job_rows.proofs.refused_step.Goals as goal
+
+pub returns : goal.returns
+returns c = rw c.refused_row-row.ensures refl

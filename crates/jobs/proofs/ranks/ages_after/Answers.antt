@@ -1,0 +1,20 @@
+use Prim.Native.Nat.{◌-◌, ◌≤◌}
+use mathlib.Core.Path.{◌≡◌, refl, sym, ap, ◌∙◌}
+use native.Mathlib.Omega.{arith}
+use lib.ListN.{set}
+use Rattle.arith.specs.Tables.{table, table_more}
+use Rattle.jobs.specs.AgeLaws.{age_turn}
+use Rattle.rules.specs.Ranks.{ages_after}
+use Rattle.state.specs.Ages.{age_in}
+use borrow.Author.Rules.{rules}
+use Rattle.jobs.proofs.ranks.ages_after.Goals as goal
+
+pub loop-a-init : goal.loop-a-init
+unfolding table
+loop-a-init c = (omega arith, refl)
+
+pub loop-a-preserved : goal.loop-a-preserved
+loop-a-preserved c = (omega arith, (λ i. set (c.loop-a.invariant.1 i) c.loop-a.a ((c.age_after.ensures ∙ age_turn c.args.ages c.args.area c.loop-a.a (omega arith) (omega arith)) i)) ∙ sym (table_more 8 _ _ _))
+
+pub returns : goal.returns
+returns c = c.loop-a.invariant.1 ∙ ap (table 8 _ 0) (omega arith)

@@ -1,0 +1,20 @@
+use Prim.Native.Nat.{◌-◌, ◌≤◌}
+use mathlib.Core.Path.{◌≡◌}
+use lib.ListN.{length}
+use native.Mathlib.Omega.{arith}
+use Rattle.lines.specs.Fields.{cut_from, in_front}
+use Rattle.lines.specs.laws.FieldLaws.{word, word_none, field_more, field_space, field_last}
+use borrow.Author.Rules.{rules}
+use Rattle.lines.proofs.part_end.Goals as goal
+
+pub loop-i-init : goal.loop-i-init
+loop-i-init c = (omega arith, omega arith, word_none c.args.mark c.args.bytes.now c.args.from (omega arith))
+
+pub returns-then-bytes-i : goal.returns-then-bytes-i
+returns-then-bytes-i c = let a = c.args in let l = c.loop-i in (omega arith, omega arith, field_space a.mark a.bytes.now a.from l.i (omega arith) (omega arith) l.invariant.2)
+
+pub loop-i-preserved : goal.loop-i-preserved
+loop-i-preserved c = let a = c.args in let l = c.loop-i in (omega arith, omega arith, field_more a.mark a.bytes.now a.from l.i (omega arith) (omega arith) c.if-bytes-i.false l.invariant.2)
+
+pub returns : goal.returns
+returns c = let a = c.args in let l = c.loop-i in (omega arith, omega arith, field_last a.mark a.bytes.now a.from l.i (omega arith) l.invariant.2)

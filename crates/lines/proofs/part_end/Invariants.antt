@@ -1,0 +1,14 @@
+use Prim.Native.Nat.{◌-◌, ◌≤◌}
+use mathlib.Core.Path.{◌≡◌}
+use lib.ListN.{length}
+use native.Mathlib.Omega.{arith}
+use Rattle.lines.specs.Fields.{cut_from, in_front}
+use Rattle.lines.specs.laws.FieldLaws.{word, word_none, field_more, field_space, field_last}
+use borrow.Author.Rules.{rules}
+use Rattle.lines.proofs.part_end.Given as goal
+
+abbrev pub invariant-loop-i : goal.invariant-loop-i
+invariant-loop-i l = (l.from ≤ l.i) × (l.i ≤ length l.bytes) × (cut_from l.mark l.bytes l.from ≡ in_front (word l.bytes l.from l.i) (cut_from l.mark l.bytes l.i))
+
+abbrev pub decreases-loop-i : goal.decreases-loop-i
+decreases-loop-i l = length l.bytes - l.i

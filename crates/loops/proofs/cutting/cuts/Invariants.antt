@@ -1,0 +1,14 @@
+use Prim.Native.Nat.{◌+◌, ◌-◌, ◌*◌, ◌≤◌}
+use mathlib.Core.Path.{◌≡◌, refl, ap, ap₂, ◌∙◌, subst, sym}
+use native.Mathlib.Omega.{arith}
+use borrow.Author.Rules.{rules}
+use Rattle.manager.specs.laws.LoadLaws.{loaded_few}
+use Rattle.loops.specs.Repeated.{repeated, total, repeated_more, total_more}
+use Rattle.loops.specs.Cutting.{processed_next, next_cut, cut_total}
+use Rattle.loops.proofs.cutting.cuts.Given as goal
+
+abbrev pub invariant-loop-i : goal.invariant-loop-i
+invariant-loop-i l = (l.i ≤ l.times) × (l.processed ≤ l.length) × (l.processed ≡ repeated (next_cut l.manager.plan l.task) 0 l.i) × (l.sum ≡ cut_total l.manager.plan l.task l.i) × (l.sum ≤ 4294967295 * l.i)
+
+abbrev pub decreases-loop-i : goal.decreases-loop-i
+decreases-loop-i l = l.times - l.i

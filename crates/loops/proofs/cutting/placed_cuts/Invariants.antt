@@ -1,0 +1,15 @@
+use Prim.Native.Nat.{◌+◌, ◌-◌, ◌*◌, ◌%◌, ◌≤◌}
+use mathlib.Core.Path.{◌≡◌, refl, ap, ap₂, ◌∙◌, sym}
+use native.Mathlib.Omega.{arith}
+use borrow.Author.Rules.{rules}
+use Rattle.plan.specs.Questions.{sub_area_of}
+use Rattle.segment.specs.laws.Found.{segment_if}
+use Rattle.loops.specs.Repeated.{repeated, total, repeated_more, total_more}
+use Rattle.loops.specs.Cutting.{processed_next, next_placed_cut, placed_total}
+use Rattle.loops.proofs.cutting.placed_cuts.Given as goal
+
+abbrev pub invariant-loop-i : goal.invariant-loop-i
+invariant-loop-i l = (l.i ≤ l.times) × (l.processed ≤ l.length) × (l.processed ≡ repeated (next_placed_cut l.plan.sub_areas l.task) 0 l.i) × (l.sum ≡ placed_total l.plan.sub_areas l.task l.i) × (l.sum ≤ 4294967295 * l.i)
+
+abbrev pub decreases-loop-i : goal.decreases-loop-i
+decreases-loop-i l = l.times - l.i

@@ -1,0 +1,7 @@
+use mathlib.Core.Path.{refl}
+use borrow.Author.Rules.{rules}
+use Rattle.loops.proofs.grown.Grown.submit.Goals as goal
+
+pub returns : goal.returns
+returns c = let r = c.job_change-change.ensures in
+    record { answer_value = r.0 _; grown_value = (r.1.0 _, refl) }

@@ -1,0 +1,47 @@
+use Prim.Native.Nat.{◌+◌, ◌-◌, ◌*◌, ◌≤◌}
+use mathlib.Core.Path.{◌≡◌, refl, ap, ◌∙◌}
+use native.Mathlib.Omega.{arith}
+use lib.ListN as lists
+use Rattle.effects.specs.Effects.{memory_of}
+use Rattle.loops.specs.Rounds.{rounds, round_total, rounds_more, total_more_rounds, bench_is, bench_of, bench_after, left_total}
+use lib.ListN.{replicate}
+use Rattle.loops.specs.Grown.{manager_in}
+use borrow.Author.Rules.{rules}
+use Rattle.loops.proofs.grown.rounds.Goals as goal
+
+pub loop-i-init : goal.loop-i-init
+unfolding rounds round_total
+loop-i-init c = (omega arith, refl, refl, refl, refl, omega arith, ap (λ g. g.more) c.of-grown.ensures)
+
+pub overflow_add-sum : goal.overflow_add-sum
+overflow_add-sum c = omega (arith, c.loop-i.invariant.5, c.loop-i-test.true, c.ranges.times, c.number-number.type_inv)
+
+pub overflow_add-i : goal.overflow_add-i
+overflow_add-i c = omega (arith, c.loop-i-test.true, c.ranges.times)
+
+pub loop-i-preserved : goal.loop-i-preserved
+loop-i-preserved c = let here = c.loop-i in
+    let inv = here.invariant in
+    let done = c.round-answered.ensures in (
+      omega arith,
+      omega (arith, inv.1),
+      omega (arith, inv.2),
+      rw (rounds_more, ← inv.3) (bench_is _ _ _ _ _ done.1.0.0 done.1.1.0 done.1.1.1),
+      rw (total_more_rounds, ← inv.3, ← inv.4) (ap (◌+◌ here.sum) (c.number-number.ensures ∙ done.0)),
+      omega arith,
+      done.1.0.1 ∙ inv.6,
+    )
+
+pub rest_of-rest-requires : goal.rest_of-rest-requires
+rest_of-rest-requires c = c.loop-i.invariant.6
+
+pub overflow_add-result-2 : goal.overflow_add-result-2
+overflow_add-result-2 c = omega (arith, c.loop-i.invariant.5, c.loop-i.invariant.0, c.ranges.times, c.rest_of-rest.ensures, c.left_sum.ensures.upper_bound)
+
+pub returns : goal.returns
+returns c = let here = c.loop-i in
+    let inv = here.invariant in
+    let all : c.args.times ≡ here.i = omega arith in
+    let begun = ap manager_in c.of-grown.ensures ∙ c.busy-busy.ensures in
+    let none : here.sum + c.rest_of-rest.result + c.left_sum.result ≡ here.sum + c.left_sum.result = omega (arith, c.rest_of-rest.ensures) in
+    rw (← begun, ← c.answer_of-answers.ensures, all) (rw (← inv.3, ← inv.4) (none ∙ ap (◌+◌ here.sum) (c.left_sum.ensures.value ∙ ap (λ m. left_total m 8) c.manager.ensures)), (ap (λ b. b.lent.image) inv.3, ap (λ b. b.lent.store) inv.3))

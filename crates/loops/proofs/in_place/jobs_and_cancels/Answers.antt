@@ -1,0 +1,33 @@
+use Prim.Native.Nat.{◌+◌, ◌-◌, ◌*◌, ◌≤◌}
+use mathlib.Core.Path.{◌≡◌, refl, ap, ap₂, ◌∙◌}
+use native.Mathlib.Omega.{arith}
+use Rattle.manager.specs.Calls.{job_number_of, after_job}
+use Rattle.loops.specs.Repeated.{turn, repeated, total, repeated_more, total_more, next_pair, pair_total}
+use borrow.Author.Rules.{rules}
+use Rattle.loops.proofs.in_place.jobs_and_cancels.Goals as goal
+
+pub loop-i-init : goal.loop-i-init
+unfolding repeated total
+loop-i-init c = (omega arith, refl, refl, omega arith)
+
+pub overflow_add-i : goal.overflow_add-i
+overflow_add-i c = omega (arith, c.loop-i-test.true, c.ranges.times)
+
+pub loop-i-smaller : goal.loop-i-smaller
+loop-i-smaller c = omega (arith, c.loop-i-test.true)
+
+pub loop-i-preserved : goal.loop-i-preserved
+loop-i-preserved c = let here = c.loop-i in
+    let inv = here.invariant in
+    let task = c.task_of-task.ensures in
+    let begun = c.job_change-change.ensures in
+    let ended = c.cancel_change-change.ensures in
+    let next = begun.1.0 here.manager.wear ∙ ap (λ t. after_job here.manager (turn here.i) t) task in (
+      omega (arith, c.loop-i-test.true),
+      rw (repeated_more, ← inv.1, ← next) (ended.1.0 here.manager.wear),
+      rw (total_more, ← inv.1, ← inv.2, ← next) (ap₂ (λ x y. here.sum + (x + y)) (c.number-first.ensures ∙ begun.0 here.manager.wear ∙ ap (λ t. job_number_of here.manager (turn here.i) t) task) (c.number-second.ensures ∙ ended.0 here.manager.wear)),
+      omega (arith, inv.3, c.number-first.type_inv, c.number-second.type_inv),
+    )
+
+pub returns : goal.returns
+returns c = c.loop-i.invariant.2 ∙ ap₂ (pair_total _ _) c.load-loaded.ensures.manager_value (omega arith)

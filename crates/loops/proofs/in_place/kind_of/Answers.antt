@@ -1,0 +1,28 @@
+use mathlib.Core.Path.{refl}
+use borrow.Author.Tests.{eq-eqb, ne_eqb}
+use Rattle.loops.specs.Repeated.{kind_of}
+use Rattle.loops.proofs.in_place.kind_of.Goals as goal
+
+pub returns-then-kind-eq1 : goal.returns-then-kind-eq1
+unfolding kind_of
+returns-then-kind-eq1 c = rw (eq-eqb _ _ c.if-kind-eq1.true) refl
+
+pub returns-then-kind-eq2 : goal.returns-then-kind-eq2
+unfolding kind_of
+returns-then-kind-eq2 c = rw (ne_eqb _ _ c.if-kind-eq1.false, eq-eqb _ _ c.if-kind-eq2.true) refl
+
+pub returns-then-kind-eq3 : goal.returns-then-kind-eq3
+unfolding kind_of
+returns-then-kind-eq3 c = rw (ne_eqb _ _ c.if-kind-eq1.false, ne_eqb _ _ c.if-kind-eq2.false, eq-eqb _ _ c.if-kind-eq3.true) refl
+
+pub returns-then-kind-eq4 : goal.returns-then-kind-eq4
+unfolding kind_of
+returns-then-kind-eq4 c = rw (ne_eqb _ _ c.if-kind-eq1.false, ne_eqb _ _ c.if-kind-eq2.false, ne_eqb _ _ c.if-kind-eq3.false, eq-eqb _ _ c.if-kind-eq4.true) refl
+
+pub returns-then-kind-eq6 : goal.returns-then-kind-eq6
+unfolding kind_of
+returns-then-kind-eq6 c = rw (ne_eqb _ _ c.if-kind-eq1.false, ne_eqb _ _ c.if-kind-eq2.false, ne_eqb _ _ c.if-kind-eq3.false, ne_eqb _ _ c.if-kind-eq4.false, eq-eqb _ _ c.if-kind-eq6.true) refl
+
+pub returns : goal.returns
+unfolding kind_of
+returns c = rw (ne_eqb _ _ c.if-kind-eq1.false, ne_eqb _ _ c.if-kind-eq2.false, ne_eqb _ _ c.if-kind-eq3.false, ne_eqb _ _ c.if-kind-eq4.false, ne_eqb _ _ c.if-kind-eq6.false) refl

@@ -1,0 +1,34 @@
+use Prim.Native.Nat.{◌+◌, ◌-◌, ◌*◌, ◌≤◌}
+use mathlib.Core.Path.{◌≡◌, refl, ap, ◌∙◌}
+use native.Mathlib.Omega.{arith}
+use borrow.Author.Rules.{rules}
+use lib.ListN as lists
+use Rattle.effects.specs.Effects.{memory_of}
+use Rattle.loops.specs.Rounds.{rounds, round_total, rounds_more, total_more_rounds, bench_is, bench_of, bench_after}
+use Rattle.loops.proofs.rounds.Goals as goal
+
+pub loop-i-init : goal.loop-i-init
+unfolding rounds round_total
+loop-i-init c = (omega arith, refl, refl, refl, refl, omega arith)
+
+pub loop-i-preserved : goal.loop-i-preserved
+loop-i-preserved c = let here = c.loop-i in
+    let inv = here.invariant in
+    let done = c.round-answered.ensures in
+    let told = c.number-number.ensures in (
+      omega arith,
+      omega (arith, inv.1),
+      omega (arith, inv.2),
+      rw (rounds_more, ← inv.3) (bench_is _ _ _ _ _ done.1.0 done.1.1.0 done.1.1.1),
+      rw (total_more_rounds, ← inv.3, ← inv.4) (ap (◌+◌ here.sum) (told ∙ done.0)),
+      omega arith,
+    )
+
+pub returns : goal.returns
+returns c = let here = c.loop-i in
+    let inv = here.invariant in
+    let all : c.args.times ≡ here.i = omega arith in
+    rw (← c.busy-manager.ensures, ← c.answer_of-answers.ensures, all) (
+      rw (← inv.3, ← inv.4) (ap (◌+◌ here.sum) c.left_sum.ensures.value),
+      (ap (λ b. b.lent.image) inv.3, ap (λ b. b.lent.store) inv.3),
+    )

@@ -1,0 +1,15 @@
+use Rattle.machine.specs.laws.Dues.{fits_in, state_turn}
+use mathlib.Core.Bool.{true}
+use Prim.Native.Nat.{◌-◌, ◌≤◌}
+use mathlib.Core.Path.{◌≡◌, refl, sym, ap, ◌∙◌}
+use native.Mathlib.Omega.{arith}
+use borrow.Author.Tests.{not-true, not-false}
+use Rattle.arith.specs.Bounded.{every, every_fails, every_more}
+use borrow.Author.Rules.{rules}
+use Rattle.machine.proofs.dues.states_fit.Given as goal
+
+abbrev pub invariant-loop-d : goal.invariant-loop-d
+invariant-loop-d l = (l.d ≤ l.device_count) × (every (fits_in l.device_records l.device_count l.area_records l.area_count l.areas l.devices l.dues) l.d ≡ true)
+
+abbrev pub decreases-loop-d : goal.decreases-loop-d
+decreases-loop-d l = l.device_count - l.d

@@ -1,0 +1,15 @@
+use Rattle.devices.specs.Arrays.{state_in}
+use Rattle.machine.specs.laws.Dues.{is_running}
+use Rattle.arith.specs.Bounded.{some, some_intro, some_none}
+use mathlib.Core.Bool.{false}
+use mathlib.Core.Path.{◌≡◌, refl, sym, ap, ◌∙◌}
+use Prim.Native.Nat.{◌-◌, ◌≤◌}
+use native.Mathlib.Omega.{arith}
+use borrow.Author.Rules.{rules}
+use Rattle.machine.proofs.soundness.any_runs.Given as goal
+
+abbrev pub invariant-loop-d : goal.invariant-loop-d
+invariant-loop-d l = (l.d ≤ 4) × (some (λ k. is_running (state_in l.devices k)) l.d ≡ false)
+
+abbrev pub decreases-loop-d : goal.decreases-loop-d
+decreases-loop-d l = 4 - l.d

@@ -1,0 +1,7 @@
+use Rattle.manager.specs.Load.{fresh_manager}
+use borrow.Author.Rules.{rules}
+use Rattle.manager.proofs.Manager.fresh.Goals as goal
+
+pub returns : goal.returns
+unfolding fresh_manager
+returns c = rw (c.fresh-areas.ensures, c.free-devices.ensures)

@@ -1,0 +1,33 @@
+use Rattle.changes.specs.laws.Changes.{refused_some}
+use Rattle.manager.specs.laws.CallLaws.{memory_number_lem, memory_few, memory_refused, memory_accepted}
+use Rattle.machine.specs.laws.SoundCases.{sound_few}
+use Rattle.memory.specs.Numbers.{admission_number}
+use mathlib.Core.Path.{sym, ap, ◌∙◌}
+use borrow.Author.Rules.{rules}
+use Rattle.manager.proofs.Manager.memory_info.Goals as goal
+
+pub memory_admission-answer-requires : goal.memory_admission-answer-requires
+memory_admission-answer-requires c = λ e. sound_few _ _ _ (sym c.is_sound-sound.ensures ∙ e)
+
+pub memory_info-info-requires : goal.memory_info-info-requires
+memory_info-info-requires c = let m = c.args.self in
+    let a = c.args.area in
+    let address = c.args.address in
+    let number = memory_number_lem m a _ c.is_sound-sound.ensures _ address c.memory_admission-answer.ensures in
+    let accepted = sym number ∙ ap admission_number c.in-Accepted.is in
+    memory_few m a address accepted
+
+pub returns-in-Refused : goal.returns-in-Refused
+returns-in-Refused c = let m = c.args.self in
+    let a = c.args.area in
+    let address = c.args.address in
+    let number = memory_number_lem m a _ c.is_sound-sound.ensures _ address c.memory_admission-answer.ensures in
+    record { answer_value = number; info_value = c.no_memory-info.ensures ∙ memory_refused m a address (refused_some _ _ c.in-Refused.is _ number) }
+
+pub returns-in-Accepted : goal.returns-in-Accepted
+returns-in-Accepted c = let m = c.args.self in
+    let a = c.args.area in
+    let address = c.args.address in
+    let number = memory_number_lem m a _ c.is_sound-sound.ensures _ address c.memory_admission-answer.ensures in
+    let accepted = sym number ∙ ap admission_number c.in-Accepted.is in
+    record { answer_value = number; info_value = c.memory_info-info.ensures ∙ memory_accepted m a address accepted }

@@ -1,0 +1,10 @@
+use mathlib.Core.Path.{ap, ◌∙◌}
+use Rattle.manager.specs.Calls.{manager_of}
+use borrow.Author.Rules.{rules}
+use Rattle.manager.proofs.Manager.round.Goals as goal
+
+pub returns : goal.returns
+returns c = let m = c.args.self in
+    let r = c.round_change-change in
+    let worn = ap (manager_of m.plan r.result.areas r.result.devices m.ages) c.add_worn.ensures in
+    (r.ensures.0 m.wear, (worn ∙ r.ensures.1.0 m.wear, (r.ensures.1.1.0 m.wear, r.ensures.1.1.1 m.wear)))

@@ -1,0 +1,40 @@
+use Prim.Native.Nat.{ℕ}
+use mathlib.Core.Bool.{not}
+use mathlib.Core.List.{List, ◌∷◌, []}
+use mathlib.Core.Path.{refl, ap, ◌∙◌}
+use lib.ListN.{get_or}
+use native.Mathlib.Omega.{arith}
+use Rattle.arith.specs.FirstNo.{first_no}
+use Rattle.rules.specs.Admission.{is_known, range_questions}
+use Rattle.rules.specs.Machine.{is_pending}
+use Rattle.state.specs.Fresh.{free_device}
+use Rattle.changes.specs.laws.Changes.{begun_change}
+use Rattle.manager.specs.laws.ChangeLaws.{kept, job_none, job_asked, job_begun}
+use borrow.Author.Rules.{rules}
+use Rattle.manager.proofs.in_place.job_change.Goals as goal
+
+pub begin-requires : goal.begin-requires
+begin-requires c = let a = c.args in
+    let k = c.ask-asked.ensures in
+    let x = c.idle_admission-answer in
+    let is = x.ensures ∙ ap (λ z. first_no 9 (z.sound ∷ is_known a.plan a.area ∷ not (is_pending z.area.job) ∷ [])) k.0 in
+    (job_asked a.plan a.areas a.devices a.ages [] a.area a.task x.result is c.in-Accepted.is, k.1)
+
+pub returns-in-Refused : goal.returns-in-Refused
+returns-in-Refused c = let a = c.args in
+    let k = c.ask-asked.ensures in
+    let x = c.idle_admission-answer in
+    let is = x.ensures ∙ ap (λ z. first_no 9 (z.sound ∷ is_known a.plan a.area ∷ not (is_pending z.area.job) ∷ [])) k.0 in
+    let j : (wear : List ℕ) → _ = λ wear. job_none a.plan a.areas a.devices a.ages wear a.area a.task x.result is _ c.in-Refused.is in
+    rw c.none.ensures ((λ wear. (j wear).0), ((λ wear. kept a.plan a.areas a.devices a.ages wear x.result ∙ (j wear).1), (omega arith, omega arith)))
+
+pub returns-in-Accepted : goal.returns-in-Accepted
+returns-in-Accepted c = let a = c.args in
+    let k = c.ask-asked.ensures in
+    let x = c.idle_admission-answer in
+    let is = x.ensures ∙ ap (λ z. first_no 9 (z.sound ∷ is_known a.plan a.area ∷ not (is_pending z.area.job) ∷ [])) k.0 in
+    let r = c.begin in
+    let n = r.ensures.0 ∙ ap (λ z. first_no 12 (range_questions a.plan z.number a.task)) k.0 in
+    let f = r.ensures.1 ∙ ap (λ z. begun_change r.result.answer a.plan z (get_or a.devices 0 free_device) a.ages a.task) k.0 in
+    let j : (wear : List ℕ) → _ = λ wear. job_begun a.plan a.areas a.devices a.ages wear a.area a.task x.result is c.in-Accepted.is r.result (get_or a.devices 0 free_device) refl n f in
+    ((λ wear. (j wear).0), ((λ wear. (j wear).1), (omega (arith, ap (λ z. z.area_number) r.ensures.1, k.1), omega (arith, ap (λ z. z.device_number) r.ensures.1))))

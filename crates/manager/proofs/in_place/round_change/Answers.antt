@@ -1,0 +1,50 @@
+use Prim.Native.Nat.{ℕ}
+use mathlib.Core.List.{List, []}
+use mathlib.Core.Path.{sym, ap, ◌∙◌}
+use Rattle.memory.specs.Numbers.{admission_number}
+use Rattle.effects.specs.Effects.{memory_of}
+use Rattle.manager.specs.Calls.{manager_of, round_number_of}
+use Rattle.manager.specs.declared.Manager.{Manager}
+use Rattle.changes.specs.laws.Changes.{refused_some}
+use Rattle.manager.specs.laws.CallLaws.{round_asked, round_refused, round_accepted, round_memory_refused, round_memory_accepted}
+use Rattle.wear.specs.Wear.{add_worn}
+use borrow.Author.Rules.{rules}
+use Rattle.manager.proofs.in_place.round_change.Goals as goal
+
+pub run_round-next-requires : goal.run_round-next-requires
+unfolding round_number_of
+run_round-next-requires c = let a = c.args in
+    let m = manager_of a.plan a.areas a.devices a.ages [] in
+    let lent = memory_of a.image.now a.store.now in
+    let x = c.round_admission-asked.ensures in
+    let asked = round_asked m a.answers lent (sym x.0 ∙ ap admission_number c.in-Accepted.is) in
+    (asked.0, asked.1, asked.2, x.1 asked.0)
+
+pub returns-in-Refused : goal.returns-in-Refused
+unfolding round_number_of
+returns-in-Refused c = let a = c.args in
+    let m : List ℕ → Manager = manager_of a.plan a.areas a.devices a.ages in
+    let lent = memory_of a.image.now a.store.now in
+    let x = c.round_admission-asked.ensures in
+    let no = refused_some _ _ c.in-Refused.is _ x.0 in (
+      (λ wear. x.0),
+      (
+        (λ wear. round_refused (m wear) a.answers lent no _ c.none.ensures),
+        ((λ wear. ap (λ z. z.image) (round_memory_refused (m wear) a.answers lent no)), (λ wear. ap (λ z. z.store) (round_memory_refused (m wear) a.answers lent no))),
+      ),
+    )
+
+pub returns-in-Accepted : goal.returns-in-Accepted
+unfolding round_number_of
+returns-in-Accepted c = let a = c.args in
+    let m : List ℕ → Manager = manager_of a.plan a.areas a.devices a.ages in
+    let lent = memory_of a.image.now a.store.now in
+    let x = c.round_admission-asked.ensures in
+    let yes = sym x.0 ∙ ap admission_number c.in-Accepted.is in
+    let r = c.run_round-next in (
+      (λ wear. x.0),
+      (
+        (λ wear. round_accepted (m wear) a.answers lent yes r.result.areas r.result.devices (add_worn r.result.worn 4 wear) r.ensures.0 r.ensures.1.0 (r.ensures.1.1.0 wear)),
+        ((λ wear. r.ensures.1.1.1.0 ∙ ap (λ z. z.image) (round_memory_accepted (m wear) a.answers lent yes)), (λ wear. r.ensures.1.1.1.1 ∙ ap (λ z. z.store) (round_memory_accepted (m wear) a.answers lent yes))),
+      ),
+    )

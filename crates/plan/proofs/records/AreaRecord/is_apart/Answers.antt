@@ -1,0 +1,6 @@
+use borrow.Author.Rules.{rules}
+use Rattle.plan.proofs.records.AreaRecord.is_apart.Goals as goal
+
+pub returns : goal.returns
+unfolding Rattle.plan.specs.Questions.windows_apart
+returns c = simp (← c.are_apart.ensures)

@@ -1,0 +1,5 @@
+use borrow.Author.Rules.{rules}
+use Rattle.plan.proofs.records.AreaRecord.window_fits.Goals as goal
+
+pub returns : goal.returns
+returns c = simp (← c.window_end.ensures)

@@ -1,0 +1,17 @@
+use Prim.Native.Nat.{◌+◌, ◌-◌, ◌*◌, ◌≤◌}
+use mathlib.Core.Path.{◌≡◌, ◌∙◌, ap}
+use native.Mathlib.Omega.{arith}
+use borrow.Author.Rules.{rules}
+use Rattle.arith.specs.Tables.{table, table_more}
+use Rattle.plan.specs.Records.{area_at, no_area}
+use Rattle.plan.proofs.records.read_areas.Goals as goal
+
+pub loop-i-init : goal.loop-i-init
+unfolding table
+loop-i-init c = (omega arith, rw c.blank-areas.ensures)
+
+pub loop-i-preserved : goal.loop-i-preserved
+loop-i-preserved c = (omega arith, rw (table_more, c.read.ensures, c.loop-i.invariant.1))
+
+pub returns : goal.returns
+returns c = c.loop-i.invariant.1 ∙ ap (table _ _ _) (omega arith)

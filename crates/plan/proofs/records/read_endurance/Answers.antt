@@ -1,0 +1,21 @@
+use Prim.Native.Nat.{◌+◌, ◌-◌, ◌*◌, ◌≤◌}
+use mathlib.Core.Logic.{⊎_elim}
+use mathlib.Core.Path.{◌≡◌, refl, ap, ◌∙◌}
+use native.Mathlib.Omega.{arith}
+use borrow.Author.Rules.{rules}
+use Rattle.arith.specs.Tables.{table}
+use Rattle.plan.specs.Records.{wear_at, endurance_by}
+use Rattle.plan.proofs.laws.WearLaws.{endurance_set, endurance_past}
+use Rattle.plan.proofs.records.read_endurance.Goals as goal
+
+pub loop-i-init : goal.loop-i-init
+unfolding endurance_by table
+loop-i-init c = (omega arith, refl)
+
+pub loop-i-preserved : goal.loop-i-preserved
+loop-i-preserved c = let r = c.read-wear.ensures in
+    let was = c.loop-i.invariant.1 in
+    (omega arith, ⊎_elim (λ w. endurance_set _ _ _ r _ _ was w.1) (λ w. endurance_past _ _ _ r _ _ was w.0.left w.1) c.if-sub_area-lt32.branch)
+
+pub returns : goal.returns
+returns c = c.loop-i.invariant.1 ∙ ap (λ f. table 32 f 0 32) (ap (endurance_by _) (omega arith))

@@ -1,0 +1,15 @@
+use Prim.Native.Nat.{◌+◌, ◌-◌, ◌*◌, ◌≤◌}
+use mathlib.Core.Logic.{⊎_elim}
+use mathlib.Core.Path.{◌≡◌, refl, ap, ◌∙◌}
+use native.Mathlib.Omega.{arith}
+use borrow.Author.Rules.{rules}
+use Rattle.arith.specs.Tables.{table}
+use Rattle.plan.specs.Records.{wear_at, endurance_by}
+use Rattle.plan.proofs.laws.WearLaws.{endurance_set, endurance_past}
+use Rattle.plan.proofs.records.read_endurance.Given as goal
+
+abbrev pub invariant-loop-i : goal.invariant-loop-i
+invariant-loop-i l = (l.i ≤ l.count) × (l.endurance ≡ table 32 (endurance_by (λ j. wear_at l.bytes (l.from + j * 7)) l.i) 0 32)
+
+abbrev pub decreases-loop-i : goal.decreases-loop-i
+decreases-loop-i l = l.count - l.i

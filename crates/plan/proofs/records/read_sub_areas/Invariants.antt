@@ -1,0 +1,14 @@
+use Prim.Native.Nat.{◌+◌, ◌-◌, ◌*◌, ◌≤◌}
+use mathlib.Core.Path.{◌≡◌, ◌∙◌, ap}
+use native.Mathlib.Omega.{arith}
+use borrow.Author.Rules.{rules}
+use Rattle.arith.specs.Tables.{table, table_more}
+use Rattle.plan.specs.Records.{sub_area_at, no_sub_area}
+use borrow.Author.Rules.{rules}
+use Rattle.plan.proofs.records.read_sub_areas.Given as goal
+
+abbrev pub invariant-loop-i : goal.invariant-loop-i
+invariant-loop-i l = (l.i ≤ l.count) × (l.sub_areas ≡ table 32 (λ j. sub_area_at l.bytes (l.from + j * 38)) no_sub_area l.i)
+
+abbrev pub decreases-loop-i : goal.decreases-loop-i
+decreases-loop-i l = l.count - l.i

@@ -1,0 +1,19 @@
+use Prim.Native.Nat.{◌-◌, ◌≤◌}
+use mathlib.Core.Bool.{false, ◌&&◌}
+use mathlib.Core.Path.{◌≡◌, refl, sym, ap, ◌∙◌}
+use native.Mathlib.Omega.{arith}
+use lib.Dec.{eqb}
+use borrow.Author.Tests.{eq-eqb, ne_eqb}
+use Rattle.arith.specs.Bounded.{some, some_intro, some_none}
+use Rattle.arith.specs.Cases.{and_intro}
+use Rattle.plan.specs.Questions.{sub_area_of, is_of}
+use Rattle.rules.specs.statements.JobSets.{is_on}
+use borrow.Author.Rules.{rules}
+use Rattle.plan_rows.proofs.is_on.Given as goal
+
+abbrev pub invariant-loop-i : goal.invariant-loop-i
+invariant-loop-i l = (l.i ≤ l.plan.sub_area_count)
+    × (some (λ k. is_of l.area (sub_area_of l.plan.sub_areas k) && eqb (sub_area_of l.plan.sub_areas k).device l.device) l.i ≡ false)
+
+abbrev pub decreases-loop-i : goal.decreases-loop-i
+decreases-loop-i l = l.plan.sub_area_count - l.i

@@ -1,0 +1,21 @@
+use Prim.Native.Nat.{◌-◌, ◌≤◌}
+use lib.ListN.{length}
+use mathlib.Core.Path.{◌≡◌, refl, ◌∙◌}
+use native.Mathlib.Omega.{arith}
+use Rattle.rows.specs.Rows.{rows_text}
+use Rattle.rows.specs.Written.{Written}
+use Rattle.rows.specs.laws.WrittenLaws.{written_none, written_more}
+use Rattle.plan_rows.specs.PlanRows.{plan_rows_from}
+use Rattle.plan_rows.specs.laws.PlanRowLaws.{place_row, place_none}
+use borrow.Author.Rules.{rules}
+use Rattle.plan_rows.proofs.print_plan.Given as goal
+
+abbrev pub invariant-loop-next : goal.invariant-loop-next
+invariant-loop-next l = (l.k ≤ l.next)
+    × (l.next ≤ 300)
+    × (l.end ≤ length l.out)
+    × (length l.out ≡ length l.initial.out)
+    × Written l.initial.out l.out l.at l.end (rows_text (plan_rows_from l.plan (300 - l.k) l.k)) (rows_text (plan_rows_from l.plan (300 - l.next) l.next))
+
+abbrev pub decreases-loop-next : goal.decreases-loop-next
+decreases-loop-next l = 300 - l.next

@@ -1,0 +1,55 @@
+use Prim.Native.Nat.{ℕ, ◌-◌, ◌≤◌}
+use mathlib.Core.List.{[]}
+use mathlib.Core.Path.{◌≡◌, refl, sym, ap, ◌∙◌}
+use native.Mathlib.Omega.{arith}
+use lib.ListN.{length, get_or, set, replicate, length-set}
+use Rattle.answers.specs.Worn.{worn_on}
+use Rattle.arith.specs.Tables.{table, table_more}
+use Rattle.segment.specs.Segments.{no_segment}
+use Rattle.machine.specs.laws.Dues.{Due}
+use Rattle.machine.specs.laws.SoundCases.{sound_counts}
+use Rattle.devices.specs.Arrays.{job_in, state_in, core_in}
+use Rattle.effects.specs.Effects.{memory_of}
+use Rattle.rules.specs.Machine.{second_half}
+use Rattle.rules.specs.Round.{take_all, answer_for}
+use Rattle.wear.specs.Wear.{no_worn, add_worn}
+use Rattle.wear.specs.declared.Worn.{Worn}
+use Rattle.close.specs.Close.{area_after, lent_to}
+use Rattle.rounds.specs.laws.AnswerLaws.{turn_sound, image_again, store_again}
+use Rattle.rounds.specs.laws.CloseLaws.{ClosedTo, closed_none, closed_turn, closed_all}
+use Rattle.rounds.specs.laws.Halves.{both, take_turn}
+use Rattle.rounds.specs.laws.NeedLaws.{whole_areas, whole_devices, whole_memory}
+use Rattle.rounds.specs.laws.PickLaws.{start_turn, second_turn}
+use Rattle.close.specs.laws.Waits.{needs_layout}
+use Rattle.rounds.specs.laws.Turns.{lent_turn, whole_turn}
+use Rattle.rounds.specs.laws.WearTurns.{worn_for, wear_all}
+use borrow.Author.Rules.{rules, elem_Fits}
+use Rattle.rounds.proofs.halves.run_round.Given as goal
+
+abbrev pub invariant-loop-k : goal.invariant-loop-k
+invariant-loop-k l = (l.plan.device_count ≤ 4) × (l.k ≤ l.plan.device_count) × (l.worn ≡ table 4 (worn_for l.areas l.devices l.dues l.answers) no_worn l.k)
+
+abbrev pub decreases-loop-k : goal.decreases-loop-k
+decreases-loop-k l = l.plan.device_count - l.k
+
+abbrev pub invariant-loop-d : goal.invariant-loop-d
+invariant-loop-d l = (l.plan.device_count ≤ 4) × (l.plan.area_count ≤ 8) × (l.plan.sub_area_count ≤ 32) × (l.d ≤ l.plan.device_count) × (l.sub_areas ≡ l.plan.sub_areas) × (l.records ≡ l.plan.areas) × (l.device_records ≡ l.plan.devices)
+    × (length l.image ≡ length l.initial.image) × (length l.store ≡ length l.initial.store) × (length l.areas ≡ 8) × (length l.devices ≡ 4) × (length l.dues ≡ 8)
+    × ((core_in l.areas l.devices, memory_of l.image l.store) ≡ both (take_all l.plan l.answers l.d (lent_to l.initial.areas l.initial.devices (memory_of l.initial.image l.initial.store))))
+    × Due l.plan l.dues (job_in l.areas)
+
+abbrev pub decreases-loop-d : goal.decreases-loop-d
+decreases-loop-d l = l.plan.device_count - l.d
+
+abbrev pub invariant-loop-e : goal.invariant-loop-e
+invariant-loop-e l = (l.e ≤ l.plan.device_count) × (length l.areas ≡ 8) × (length l.devices ≡ 4)
+    × (core_in l.areas l.devices ≡ second_half (needs_layout l.records l.ages l.plan.area_count l.device_records l.needs) l.e (core_in l.initial.areas l.initial.devices))
+
+abbrev pub decreases-loop-e : goal.decreases-loop-e
+decreases-loop-e l = l.plan.device_count - l.e
+
+abbrev pub invariant-loop-a : goal.invariant-loop-a
+invariant-loop-a l = (l.a ≤ 8) × ClosedTo (area_after (needs_layout l.records l.ages 0 [] l.needs) l.before (core_in l.initial.areas l.devices)) l.initial.areas l.a l.areas
+
+abbrev pub decreases-loop-a : goal.decreases-loop-a
+decreases-loop-a l = 8 - l.a

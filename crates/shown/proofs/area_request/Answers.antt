@@ -1,0 +1,12 @@
+use native.Mathlib.Omega.{arith}
+use Rattle.devices.specs.Arrays.{job_in}
+use Rattle.shown.specs.laws.ShownLaws.{request_shown}
+use borrow.Author.Rules.{rules}
+use Rattle.shown.proofs.area_request.Goals as goal
+
+pub returns : goal.returns
+returns c = let a = c.args in (
+      request_shown a.plan (job_in a.areas) a.area _ _ _ _ c.job_of-job.ensures c.number-number.ensures c.start_of-start.ensures c.segment_from-segment.ensures
+          c.request_text.ensures.0,
+      omega arith,
+    )

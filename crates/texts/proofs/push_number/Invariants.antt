@@ -1,0 +1,15 @@
+use Rattle.texts.specs.laws.TextLaws.{power_first, power_less, power_some, count_few, digits_turn, digits_done}
+use Rattle.texts.specs.Texts.{digits_of, digit_count, decimal}
+use borrow.Author.Rules.{rules}
+use native.Mathlib.Omega.{arith}
+use lib.ListN.{length, take}
+use mathlib.Core.List.{◌++◌}
+use mathlib.Core.Path.{◌≡◌, refl, ap, ◌∙◌}
+use Prim.Native.Nat.{◌+◌, ◌-◌, ◌/◌, ◌^◌, ◌≤◌}
+use Rattle.texts.proofs.push_number.Given as goal
+
+abbrev pub invariant-loop-left : goal.invariant-loop-left
+invariant-loop-left l = (l.at ≤ l.end) × (l.end + l.left ≡ l.at + digit_count l.n) × (length l.out ≡ length l.initial.out) × (take l.end l.out ++ digits_of l.left l.n ≡ take l.at l.initial.out ++ decimal l.n) × (l.power ≡ 10 ^ l.left / 10)
+
+abbrev pub decreases-loop-left : goal.decreases-loop-left
+decreases-loop-left l = l.left
