@@ -48,12 +48,28 @@ first_byte-first-requires c = let p = c.args.plan in
     let here = last_found p a t.address t.length _ c.last_byte-last.ensures found in
     (c.requires.0, c.requires.1, inside_some p a t.address t.length here.0, here.1)
 
+pub offset_bounds-plan-i : goal.offset_bounds-plan-i
+offset_bounds-plan-i c = let p = c.args.plan in
+    let a = c.args.area in
+    let t = c.args.task in
+    let few = mapped_index p a t.address.0 c.requires.0 _ c.first_byte-first.ensures in
+    omega (arith, few, c.index_of-i.ensures)
+
 pub bounds-plan-i : goal.bounds-plan-i
 bounds-plan-i c = let p = c.args.plan in
     let a = c.args.area in
     let t = c.args.task in
     let few = mapped_index p a t.address.0 c.requires.0 _ c.first_byte-first.ensures in
     omega (arith, few, c.index_of-i.ensures)
+
+pub offset_bounds-plan-j : goal.offset_bounds-plan-j
+offset_bounds-plan-j c = let p = c.args.plan in
+    let a = c.args.area in
+    let t = c.args.task in
+    let found = sym c.is_found.ensures ∙ c.if-not-is_found.false in
+    let here = last_found p a t.address t.length _ c.last_byte-last.ensures found in
+    let few = mapped_index p a (t.address.0 + t.length - 1) c.requires.0 _ here.1 in
+    omega (arith, few, c.index_of-j.ensures)
 
 pub bounds-plan-j : goal.bounds-plan-j
 bounds-plan-j c = let p = c.args.plan in

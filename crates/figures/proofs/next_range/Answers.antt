@@ -37,6 +37,9 @@ returns-then-segment-device c = let a = c.args in
       ),
     )
 
+pub overflow_add-start : goal.overflow_add-start
+overflow_add-start c = omega (arith, c.loop-next.invariant.5)
+
 pub returns-then-segment-start : goal.returns-then-segment-start
 returns-then-segment-start c = let a = c.args in
     let l = c.loop-next in (

@@ -7,6 +7,9 @@ use Rattle.job_rows.proofs.cut_step.Goals as goal
 pub stretch_row-row-requires : goal.stretch_row-row-requires
 stretch_row-row-requires c = let a = c.args in let r = c.requires.0 in device_few a.plan a.area a.task r.here.job a.at r.here.cut r.here.more c.segment_at-segment.result c.segment_at-segment.ensures
 
+pub overflow_add-result : goal.overflow_add-result
+overflow_add-result c = let a = c.args in let r = c.requires.0 in let few = length_few a.plan a.area a.task r.here.job in omega (arith, r.segments_few, r.here.more, stretch_few a.plan a.area a.task a.at a.last a.segments a.spans r c.segment_at-segment.result c.segment_at-segment.ensures c.if-last-device.true)
+
 pub returns-then-last-device : goal.returns-then-last-device
 returns-then-last-device c = let a = c.args in let r = c.requires.0 in λ f. rw c.stretch_row-row.ensures (stretch_done a.plan a.area a.task f a.at a.last a.segments a.spans c.requires.1 r c.segment_at-segment.result c.segment_at-segment.ensures c.if-last-device.true)
 

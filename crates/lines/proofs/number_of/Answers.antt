@@ -6,7 +6,7 @@ use native.Mathlib.Omega.{arith}
 use Rattle.arith.specs.Bounded.{every, every_more}
 use Rattle.lines.specs.declared.Number.TheVariants.{Value}
 use Rattle.lines.specs.Number.{digit_at, value_of}
-use Rattle.lines.specs.laws.NumberLaws.{value_more, number_empty, number_low, number_high, number_over, number_is, digit_at}
+use Rattle.lines.specs.laws.NumberLaws.{value_more, number_empty, number_low, number_high, number_over, number_is, digit_at_lem}
 use borrow.Author.Rules.{rules}
 use Rattle.lines.proofs.number_of.Goals as goal
 
@@ -27,7 +27,7 @@ pub loop-i-preserved : goal.loop-i-preserved
 loop-i-preserved c = let text = c.args.text.now in
     let i = c.loop-i.i in
     let more = value_more text i in
-    (omega arith, every_more (digit_at text) i c.loop-i.invariant.1 (digit_at text i (omega arith) (omega arith)), omega arith, omega arith)
+    (omega arith, every_more (digit_at text) i c.loop-i.invariant.1 (digit_at_lem text i (omega arith) (omega arith)), omega arith, omega arith)
 
 pub returns-then-i-lt1 : goal.returns-then-i-lt1
 returns-then-i-lt1 c = sym (number_empty c.args.text.now (omega arith))

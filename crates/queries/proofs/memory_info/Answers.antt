@@ -4,6 +4,9 @@ use Rattle.queries.specs.laws.QueryLaws.{memory_outside, memory_inside, memory_p
 use borrow.Author.Rules.{rules}
 use Rattle.queries.proofs.memory_info.Goals as goal
 
+pub offset_bounds-records-sub_area : goal.offset_bounds-records-sub_area
+offset_bounds-records-sub_area c = let place = memory_place _ _ c.args.address _ c.map_address-found.ensures _ _ _ c.in-At.is in omega (arith, place.0)
+
 pub bounds-records-sub_area : goal.bounds-records-sub_area
 bounds-records-sub_area c = let place = memory_place _ _ c.args.address _ c.map_address-found.ensures _ _ _ c.in-At.is in omega (arith, place.0)
 

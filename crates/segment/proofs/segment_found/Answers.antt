@@ -2,6 +2,9 @@ use native.Mathlib.Omega.{arith}
 use borrow.Author.Rules.{rules}
 use Rattle.segment.proofs.segment_found.Goals as goal
 
+pub overflow_cast-number : goal.overflow_cast-number
+overflow_cast-number c = let inside = rw c.in-At.is at c.requires in omega (arith, inside.0)
+
 pub segment_in-requires : goal.segment_in-requires
 segment_in-requires c = let inside = rw c.in-At.is at c.requires in omega (arith, inside)
 

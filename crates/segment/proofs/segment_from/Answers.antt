@@ -6,6 +6,9 @@ use Rattle.segment.specs.laws.Found.{index_within, offset_inside, if_found}
 use borrow.Author.Rules.{rules}
 use Rattle.segment.proofs.segment_from.Goals as goal
 
+pub offset_bounds-sub_areas-i : goal.offset_bounds-sub_areas-i
+offset_bounds-sub_areas-i c = let few = index_within c.args.sub_areas c.args.area c.args.count c.args.start.0 (c.args.task.address.0 + c.args.processed) c.locate-found.result c.locate-found.ensures c.requires in omega (arith, few, c.index_of-i.ensures)
+
 pub bounds-sub_areas-i : goal.bounds-sub_areas-i
 bounds-sub_areas-i c = let few = index_within c.args.sub_areas c.args.area c.args.count c.args.start.0 (c.args.task.address.0 + c.args.processed) c.locate-found.result c.locate-found.ensures c.requires in omega (arith, few, c.index_of-i.ensures)
 

@@ -12,6 +12,9 @@ pub loop-i-init : goal.loop-i-init
 unfolding repeated total
 loop-i-init c = (omega arith, refl, refl, omega arith, ap (λ g. g.more) c.of-grown.ensures)
 
+pub overflow_add-sum-in-loop-i : goal.overflow_add-sum-in-loop-i
+overflow_add-sum-in-loop-i c = omega (arith, c.loop-i.invariant.3, c.loop-i-test.true, c.ranges.times, c.number-first.type_inv, c.number-second.type_inv)
+
 pub overflow_add-i : goal.overflow_add-i
 overflow_add-i c = omega (arith, c.loop-i-test.true, c.ranges.times)
 

@@ -14,6 +14,9 @@ pub loop-a-init : goal.loop-a-init
 unfolding table
 loop-a-init c = (omega arith, ap (λ s. lib.ListN.replicate 8 s) c.no_segment-dues.ensures)
 
+pub offset_bounds-sub_areas-i : goal.offset_bounds-sub_areas-i
+offset_bounds-sub_areas-i c = let few = due_index c.args.sub_areas c.args.count (area_of c.args.area_records c.loop-a.a).start.0 c.loop-a.a (job_in c.args.areas c.loop-a.a) c.locate_due-found.result c.locate_due-found.ensures c.requires in omega (arith, few, c.index_of-i.ensures)
+
 pub bounds-sub_areas-i : goal.bounds-sub_areas-i
 bounds-sub_areas-i c = let few = due_index c.args.sub_areas c.args.count (area_of c.args.area_records c.loop-a.a).start.0 c.loop-a.a (job_in c.args.areas c.loop-a.a) c.locate_due-found.result c.locate_due-found.ensures c.requires in omega (arith, few, c.index_of-i.ensures)
 

@@ -31,11 +31,20 @@ unfolding table
 loop-k-init c = let s = c in
     ((sound_counts s.args.plan s.args.areas s.args.devices s.requires.0).0, omega arith, ap (replicate 4) c.none-worn.ensures)
 
+pub offset_bounds-devices-k : goal.offset_bounds-devices-k
+offset_bounds-devices-k c = omega (arith, c.loop-k.invariant.0, c.loop-k-test.true)
+
 pub bounds-devices-k : goal.bounds-devices-k
 bounds-devices-k c = omega (arith, c.loop-k.invariant.0, c.loop-k-test.true)
 
+pub offset_bounds-answers-k : goal.offset_bounds-answers-k
+offset_bounds-answers-k c = omega (arith, c.loop-k.invariant.0, c.loop-k-test.true)
+
 pub bounds-answers-k : goal.bounds-answers-k
 bounds-answers-k c = omega (arith, c.loop-k.invariant.0, c.loop-k-test.true)
+
+pub offset_bounds-worn-k : goal.offset_bounds-worn-k
+offset_bounds-worn-k c = omega (arith, c.loop-k.invariant.0, c.loop-k-test.true)
 
 pub bounds-worn-k : goal.bounds-worn-k
 bounds-worn-k c = omega (arith, c.loop-k.invariant.0, c.loop-k-test.true)
@@ -61,11 +70,20 @@ loop-d-init c = let s = c in
     let few = sound_counts s.args.plan s.args.areas s.args.devices s.requires.0 in
     (few.0, few.1, few.2, omega arith, refl, refl, refl, refl, refl, s.well-formed.1.1.0.1.0.1, s.well-formed.1.1.1.0.1.0.1, s.well-formed.1.1.1.1.1.0.1.0.1, refl, s.requires.3)
 
+pub offset_bounds-devices-d : goal.offset_bounds-devices-d
+offset_bounds-devices-d c = omega (arith, c.loop-d.invariant.0, c.loop-d-test.true)
+
 pub bounds-devices-d : goal.bounds-devices-d
 bounds-devices-d c = omega (arith, c.loop-d.invariant.0, c.loop-d-test.true)
 
+pub offset_bounds-device_records-d : goal.offset_bounds-device_records-d
+offset_bounds-device_records-d c = omega (arith, c.loop-d.invariant.0, c.loop-d-test.true)
+
 pub bounds-device_records-d : goal.bounds-device_records-d
 bounds-device_records-d c = omega (arith, c.loop-d.invariant.0, c.loop-d-test.true)
+
+pub offset_bounds-answers-d : goal.offset_bounds-answers-d
+offset_bounds-answers-d c = omega (arith, c.loop-d.invariant.0, c.loop-d-test.true)
 
 pub bounds-answers-d : goal.bounds-answers-d
 bounds-answers-d c = omega (arith, c.loop-d.invariant.0, c.loop-d-test.true)
@@ -79,6 +97,9 @@ take_answer-turn-requires c = let s = c in
           (turn_sound p s.args.areas s.args.devices s.requires.0 s.args.answers (memory_of s.args.image.now s.args.store.now) l.d (core_in l.areas l.devices) (ap (λ x. x.0) l.invariant.12) c.loop-d-test.true)
           (image_again _ _ _ l.invariant.7 s.requires.1) (store_again _ _ _ l.invariant.8 s.requires.2) l.invariant.13 _ _ _ l.invariant.4 l.invariant.5 l.invariant.6 c.runner-area-in-loop-d.result c.runner-area-in-loop-d.ensures.value,
     )
+
+pub offset_bounds-devices-d-in-loop-d : goal.offset_bounds-devices-d-in-loop-d
+offset_bounds-devices-d-in-loop-d c = omega (arith, c.loop-d.invariant.0, c.loop-d-test.true)
 
 pub bounds-devices-d-in-loop-d : goal.bounds-devices-d-in-loop-d
 bounds-devices-d-in-loop-d c = omega (arith, c.loop-d.invariant.0, c.loop-d-test.true)
@@ -115,14 +136,23 @@ pub loop-e-init : goal.loop-e-init
 unfolding second_half
 loop-e-init c = (omega arith, c.loop-d.invariant.9, c.loop-d.invariant.10, refl)
 
+pub offset_bounds-devices-e : goal.offset_bounds-devices-e
+offset_bounds-devices-e c = omega (arith, c.loop-d.invariant.0, c.loop-e-test.true)
+
 pub bounds-devices-e : goal.bounds-devices-e
 bounds-devices-e c = omega (arith, c.loop-d.invariant.0, c.loop-e-test.true)
+
+pub offset_bounds-device_records-e : goal.offset_bounds-device_records-e
+offset_bounds-device_records-e c = omega (arith, c.loop-d.invariant.0, c.loop-e-test.true)
 
 pub bounds-device_records-e : goal.bounds-device_records-e
 bounds-device_records-e c = omega (arith, c.loop-d.invariant.0, c.loop-e-test.true)
 
 pub pick_area-best-requires : goal.pick_area-best-requires
 pick_area-best-requires c = c.loop-d.invariant.1
+
+pub offset_bounds-devices-e-in-loop-e : goal.offset_bounds-devices-e-in-loop-e
+offset_bounds-devices-e-in-loop-e c = omega (arith, c.loop-d.invariant.0, c.loop-e-test.true)
 
 pub bounds-devices-e-in-loop-e : goal.bounds-devices-e-in-loop-e
 bounds-devices-e-in-loop-e c = omega (arith, c.loop-d.invariant.0, c.loop-e-test.true)
@@ -148,6 +178,9 @@ loop-a-init c = let s = c in
     let p = s.args.plan in
     let l = c.loop-e in
     (omega arith, closed_none (area_after (needs_layout p.areas s.args.ages 0 [] c.needed_devices-needs.result) s.args.areas (core_in l.areas l.devices)) l.areas l.invariant.1)
+
+pub overflow_cast-needs : goal.overflow_cast-needs
+overflow_cast-needs c = elem_Fits _ _ c.needed_devices-needs.result _ c.loop-a.a c.needed_devices-needs.type_inv.1.1 tt
 
 pub loop-a-preserved : goal.loop-a-preserved
 loop-a-preserved c = let s = c in
