@@ -12,7 +12,9 @@ pub returns-then-not-is_found : goal.returns-then-not-is_found
 returns-then-not-is_found c = let p = c.args.plan in
     let a = c.args.area in
     let t = c.args.task in
-    refuses _ _ c.refused.ensures _ (range_outside p a t (last_none p a t.address t.length _ c.last_byte-last.ensures (sym c.is_found.ensures ∙ c.if-not-is_found.true))) _
+    
+    let both = refuses _ _ c.refused.ensures _ (range_outside p a t (last_none p a t.address t.length _ c.last_byte-last.ensures (sym c.is_found.ensures ∙ c.if-not-is_found.true))) _ in
+    record { answer_value = both.0; retries_value = both.1 }
 
 pub on_one_device-requires : goal.on_one_device-requires
 on_one_device-requires c = let p = c.args.plan in
@@ -29,7 +31,9 @@ returns-then-not-on_one_device c = let p = c.args.plan in
     let found = sym c.is_found.ensures ∙ c.if-not-is_found.false in
     let here = last_found p a t.address t.length _ c.last_byte-last.ensures found in
     let lock = sym c.is_lock.ensures ∙ c.if-is_lock.true in
-    refuses _ _ c.refused-then-not-on_one_device.ensures _ (range_split p a t here.0 lock (sym c.on_one_device.ensures ∙ c.if-not-on_one_device.true)) _
+    
+    let both = refuses _ _ c.refused-then-not-on_one_device.ensures _ (range_split p a t here.0 lock (sym c.on_one_device.ensures ∙ c.if-not-on_one_device.true)) _ in
+    record { answer_value = both.0; retries_value = both.1 }
 
 pub returns-then-is_lock : goal.returns-then-is_lock
 returns-then-is_lock c = let p = c.args.plan in
@@ -38,7 +42,9 @@ returns-then-is_lock c = let p = c.args.plan in
     let found = sym c.is_found.ensures ∙ c.if-not-is_found.false in
     let here = last_found p a t.address t.length _ c.last_byte-last.ensures found in
     let lock = sym c.is_lock.ensures ∙ c.if-is_lock.true in
-    accepts _ _ c.accepted.ensures _ (range_locks p a t here.0 lock (sym c.on_one_device.ensures ∙ c.if-not-on_one_device.false)) _ (lock_first p a t lock)
+    
+    let both = accepts _ _ c.accepted.ensures _ (range_locks p a t here.0 lock (sym c.on_one_device.ensures ∙ c.if-not-on_one_device.false)) _ (lock_first p a t lock) in
+    record { answer_value = both.0; retries_value = both.1 }
 
 pub first_byte-first-requires : goal.first_byte-first-requires
 first_byte-first-requires c = let p = c.args.plan in
@@ -97,7 +103,9 @@ returns-then-not-is_aligned c = let p = c.args.plan in
     let here = last_found p a t.address t.length _ c.last_byte-last.ensures found in
     let job = sym c.is_lock.ensures ∙ c.if-is_lock.false in
     let aligned = sym (aligned_ends p a t _ c.first_byte-first.ensures _ found here _ _ c.index_of-i.ensures c.index_of-j.ensures _ c.is_aligned.ensures) in
-    refuses _ _ c.refused-then-not-is_aligned.ensures _ (range_unaligned p a t here.0 job (aligned ∙ c.if-not-is_aligned.true)) _
+    
+    let both = refuses _ _ c.refused-then-not-is_aligned.ensures _ (range_unaligned p a t here.0 job (aligned ∙ c.if-not-is_aligned.true)) _ in
+    record { answer_value = both.0; retries_value = both.1 }
 
 pub returns-then-not-fits_window : goal.returns-then-not-fits_window
 unfolding fits_window
@@ -108,7 +116,9 @@ returns-then-not-fits_window c = let p = c.args.plan in
     let here = last_found p a t.address t.length _ c.last_byte-last.ensures found in
     let job = sym c.is_lock.ensures ∙ c.if-is_lock.false in
     let aligned = sym (aligned_ends p a t _ c.first_byte-first.ensures _ found here _ _ c.index_of-i.ensures c.index_of-j.ensures _ c.is_aligned.ensures) in
-    refuses _ _ c.refused-then-not-fits_window.ensures _ (range_long p a t here.0 job (aligned ∙ c.if-not-is_aligned.false) (sym c.fits_window.ensures ∙ c.if-not-fits_window.true)) _
+    
+    let both = refuses _ _ c.refused-then-not-fits_window.ensures _ (range_long p a t here.0 job (aligned ∙ c.if-not-is_aligned.false) (sym c.fits_window.ensures ∙ c.if-not-fits_window.true)) _ in
+    record { answer_value = both.0; retries_value = both.1 }
 
 pub segment_found-segment-requires : goal.segment_found-segment-requires
 segment_found-segment-requires c = rw c.index_of-i.ensures (mapped_inside c.args.plan c.args.area c.args.task.address.0 c.requires.0 _ c.first_byte-first.ensures)
@@ -122,5 +132,7 @@ returns c = let p = c.args.plan in
     let here = last_found p a t.address t.length _ c.last_byte-last.ensures found in
     let job = sym c.is_lock.ensures ∙ c.if-is_lock.false in
     let aligned = sym (aligned_ends p a t _ c.first_byte-first.ensures _ found here _ _ c.index_of-i.ensures c.index_of-j.ensures _ c.is_aligned.ensures) in
-    accepts _ _ c.accepted-2.ensures _ (range_fits p a t here.0 job (aligned ∙ c.if-not-is_aligned.false) (sym c.fits_window.ensures ∙ c.if-not-fits_window.false)) _
-    (first_retries p a t _ c.first_byte-first.ensures _ c.index_of-i.ensures _ c.segment_found-segment.ensures)
+    
+    let both = accepts _ _ c.accepted-2.ensures _ (range_fits p a t here.0 job (aligned ∙ c.if-not-is_aligned.false) (sym c.fits_window.ensures ∙ c.if-not-fits_window.false)) _
+    (first_retries p a t _ c.first_byte-first.ensures _ c.index_of-i.ensures _ c.segment_found-segment.ensures) in
+    record { answer_value = both.0; retries_value = both.1 }

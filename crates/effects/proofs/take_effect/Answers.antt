@@ -6,7 +6,7 @@ use borrow.Author.Rules.{rules}
 use Rattle.effects.proofs.take_effect.Goals as goal
 
 pub returns-then-finish : goal.returns-then-finish
-returns-then-finish c = (simp (c.if-finish.true, ← c.finish.ensures.value, ← c.finish.ensures.image_after.0, ← c.finish.ensures.image_after.1, c.in-Done.is), (simp (c.if-finish.true, ← c.finish.ensures.value, ← c.finish.ensures.image_after.0, ← c.finish.ensures.image_after.1, c.in-Done.is), simp (c.if-finish.true, ← c.finish.ensures.value, ← c.finish.ensures.image_after.0, ← c.finish.ensures.image_after.1, c.in-Done.is)))
+returns-then-finish c = record { result_value = simp (c.if-finish.true, ← c.finish.ensures.value, ← c.finish.ensures.image_after, ← c.finish.ensures.store_after, c.in-Done.is); image_after = simp (c.if-finish.true, ← c.finish.ensures.value, ← c.finish.ensures.image_after, ← c.finish.ensures.store_after, c.in-Done.is); store_after = simp (c.if-finish.true, ← c.finish.ensures.value, ← c.finish.ensures.image_after, ← c.finish.ensures.store_after, c.in-Done.is) }
 
 pub act_on_first-requires : goal.act_on_first-requires
 act_on_first-requires c = let e = c.least-acted.ensures in
@@ -14,10 +14,10 @@ act_on_first-requires c = let e = c.least-acted.ensures in
     (omega (arith, c.requires.0, l), le_trans (lent_less c.args.kind c.args.window c.least-acted.result c.args.n l) c.requires.1)
 
 pub returns-in-Pending : goal.returns-in-Pending
-returns-in-Pending c = (simp c.in-Pending.is, (simp c.in-Pending.is, simp c.in-Pending.is))
+returns-in-Pending c = record { result_value = simp c.in-Pending.is; image_after = simp c.in-Pending.is; store_after = simp c.in-Pending.is }
 
 pub returns-else-finish : goal.returns-else-finish
-returns-else-finish c = (simp (c.if-finish.false, ← c.finish.ensures.value, ← c.finish.ensures.image_after.0, ← c.finish.ensures.image_after.1, c.in-Done.is), (simp (c.if-finish.false, ← c.finish.ensures.value, ← c.finish.ensures.image_after.0, ← c.finish.ensures.image_after.1, c.in-Done.is), simp (c.if-finish.false, ← c.finish.ensures.value, ← c.finish.ensures.image_after.0, ← c.finish.ensures.image_after.1, c.in-Done.is)))
+returns-else-finish c = record { result_value = simp (c.if-finish.false, ← c.finish.ensures.value, ← c.finish.ensures.image_after, ← c.finish.ensures.store_after, c.in-Done.is); image_after = simp (c.if-finish.false, ← c.finish.ensures.value, ← c.finish.ensures.image_after, ← c.finish.ensures.store_after, c.in-Done.is); store_after = simp (c.if-finish.false, ← c.finish.ensures.value, ← c.finish.ensures.image_after, ← c.finish.ensures.store_after, c.in-Done.is) }
 
 pub returns-in-Failed : goal.returns-in-Failed
-returns-in-Failed c = (simp (← c.act_on_first.ensures, ← c.least-acted.ensures, c.in-Failed.is), (simp (← c.act_on_first.ensures, ← c.least-acted.ensures, c.in-Failed.is), simp (← c.act_on_first.ensures, ← c.least-acted.ensures, c.in-Failed.is)))
+returns-in-Failed c = record { result_value = simp (← c.act_on_first.ensures, ← c.least-acted.ensures, c.in-Failed.is); image_after = simp (← c.act_on_first.ensures, ← c.least-acted.ensures, c.in-Failed.is); store_after = simp (← c.act_on_first.ensures, ← c.least-acted.ensures, c.in-Failed.is) }

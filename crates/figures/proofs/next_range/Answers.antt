@@ -29,26 +29,14 @@ loop-next-init c = let a = c.args in
 
 pub returns-then-segment-device : goal.returns-then-segment-device
 returns-then-segment-device c = let a = c.args in
-    let l = c.loop-next in (
-      l.invariant.3 ∙ range_device_lem a.plan a.area a.task c.requires.0 l.next l.invariant.2 c.loop-next-test.true c.segment_at-segment.result c.segment_at-segment.ensures _ c.if-segment-device.true,
-      (
-        (l.invariant.2, l.invariant.0, l.invariant.1),
-        (l.invariant.4, l.invariant.5),
-      ),
-    )
+    let l = c.loop-next in record { x_value = l.invariant.3 ∙ range_device_lem a.plan a.area a.task c.requires.0 l.next l.invariant.2 c.loop-next-test.true c.segment_at-segment.result c.segment_at-segment.ensures _ c.if-segment-device.true; cut = (l.invariant.2, l.invariant.0, l.invariant.1); le_length = (l.invariant.4, l.invariant.5) }
 
 pub overflow_add-start : goal.overflow_add-start
 overflow_add-start c = omega (arith, c.loop-next.invariant.5)
 
 pub returns-then-segment-start : goal.returns-then-segment-start
 returns-then-segment-start c = let a = c.args in
-    let l = c.loop-next in (
-      l.invariant.3 ∙ range_gap a.plan a.area a.task c.requires.0 l.next l.invariant.2 c.loop-next-test.true c.segment_at-segment.result c.segment_at-segment.ensures _ (λ e. omega (arith, c.if-segment-start.true, e)),
-      (
-        (l.invariant.2, l.invariant.0, l.invariant.1),
-        (l.invariant.4, l.invariant.5),
-      ),
-    )
+    let l = c.loop-next in record { x_value = l.invariant.3 ∙ range_gap a.plan a.area a.task c.requires.0 l.next l.invariant.2 c.loop-next-test.true c.segment_at-segment.result c.segment_at-segment.ensures _ (λ e. omega (arith, c.if-segment-start.true, e)); cut = (l.invariant.2, l.invariant.0, l.invariant.1); le_length = (l.invariant.4, l.invariant.5) }
 
 pub overflow_add-length : goal.overflow_add-length
 overflow_add-length c = let a = c.args in let l = c.loop-next in omega (arith, l.invariant.5, inside_image a.plan a.area a.task c.requires.0 l.next l.invariant.2 c.loop-next-test.true c.segment_at-segment.result c.segment_at-segment.ensures)
@@ -80,4 +68,4 @@ loop-next-preserved c = let a = c.args in
 pub returns : goal.returns
 returns c = let a = c.args in
     let l = c.loop-next in
-    (l.invariant.3 ∙ range_last a.plan a.area a.task l.next _ c.loop-next-test.false, ((l.invariant.2, l.invariant.0, l.invariant.1), (l.invariant.4, l.invariant.5)))
+    record { x_value = l.invariant.3 ∙ range_last a.plan a.area a.task l.next _ c.loop-next-test.false; cut = (l.invariant.2, l.invariant.0, l.invariant.1); le_length = (l.invariant.4, l.invariant.5) }

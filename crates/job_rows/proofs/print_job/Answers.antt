@@ -15,7 +15,7 @@ pub loop-end-init : goal.loop-end-init
 loop-end-init c = (refl, c.requires.1, c.requires.0, written_none _ _ _)
 
 pub returns-then-is_over : goal.returns-then-is_over
-returns-then-is_over c = let l = c.loop-end in (l.invariant.3, ((l.invariant.2, omega arith), λ e. absurd (true≢false (sym c.if-is_over.true ∙ c.is_over.ensures ∙ e))))
+returns-then-is_over c = let l = c.loop-end in record { written = l.invariant.3; fits = (l.invariant.2, omega arith); out_len_bound = λ e. absurd (true≢false (sym c.if-is_over.true ∙ c.is_over.ensures ∙ e)) }
 
 pub job_step-step-requires : goal.job_step-step-requires
 job_step-step-requires c = c.loop-end.invariant.2 (sym c.is_over.ensures ∙ c.if-is_over.false)
@@ -31,4 +31,4 @@ loop-end-preserved c = let a = c.args in
     (p.0.long ∙ l.invariant.0, omega arith, d.fits, row_written a.plan a.area a.task a.facts l.next c.job_step-step.result d l.invariant.3 p.0)
 
 pub returns : goal.returns
-returns c = let l = c.loop-end in (l.invariant.3, ((l.invariant.2, omega arith), λ _. c.loop-end-test.false))
+returns c = let l = c.loop-end in record { written = l.invariant.3; fits = (l.invariant.2, omega arith); out_len_bound = λ _. c.loop-end-test.false }

@@ -14,7 +14,7 @@ pub loop-next-init : goal.loop-next-init
 loop-next-init c = (omega arith, omega arith, omega arith, refl, written_none _ _ _)
 
 pub returns-then-out-end-lt3000 : goal.returns-then-out-end-lt3000
-returns-then-out-end-lt3000 c = (c.loop-next.invariant.4, ((omega arith, omega arith, omega arith), λ h. omega arith))
+returns-then-out-end-lt3000 c = record { written = c.loop-next.invariant.4; k_le_next = (omega arith, omega arith, omega arith); out_len_bound = λ h. omega arith }
 
 pub loop-next-preserved-then-place : goal.loop-next-preserved-then-place
 loop-next-preserved-then-place c = let l = c.loop-next in
@@ -35,4 +35,4 @@ loop-next-preserved c = let l = c.loop-next in
     (omega arith, omega arith, l.invariant.2, l.invariant.3, rw (← (place_none a.plan 300 l.next c.loop-next-test.true none)) l.invariant.4)
 
 pub returns : goal.returns
-returns c = (c.loop-next.invariant.4, ((omega arith, omega arith, omega arith), λ h. absurd (omega arith)))
+returns c = record { written = c.loop-next.invariant.4; k_le_next = (omega arith, omega arith, omega arith); out_len_bound = λ h. absurd (omega arith) }

@@ -6,4 +6,4 @@ use borrow.Author.Rules.{rules}
 use Rattle.requests.proofs.take_request.Goals as goal
 
 pub returns : goal.returns
-returns c = (c.taken_job-job.ensures ∙ (λ i. taken_with c.args.due.length c.args.next.retries (c.take_effect-outcome.ensures.result_value i) (c.is_dropped-dropped.ensures i) c.args.job), (c.taken_due-due.ensures ∙ ap (due_with c.args.due c.args.next) c.take_effect-outcome.ensures.result_value, (c.taken_state-state.ensures ∙ ap (λ u. taken_state c.args.area c.args.polls u (leb c.args.limit (c.args.polls + 1))) c.take_effect-outcome.ensures.result_value, (c.take_effect-outcome.ensures.image_after.0, c.take_effect-outcome.ensures.image_after.1))))
+returns c = record { job_value = c.taken_job-job.ensures ∙ (λ i. taken_with c.args.due.length c.args.next.retries (c.take_effect-outcome.ensures.result_value i) (c.is_dropped-dropped.ensures i) c.args.job); due_value = c.taken_due-due.ensures ∙ ap (due_with c.args.due c.args.next) c.take_effect-outcome.ensures.result_value; state_value = c.taken_state-state.ensures ∙ ap (λ u. taken_state c.args.area c.args.polls u (leb c.args.limit (c.args.polls + 1))) c.take_effect-outcome.ensures.result_value; image_after = c.take_effect-outcome.ensures.image_after; store_after = c.take_effect-outcome.ensures.store_after }

@@ -26,13 +26,7 @@ returns-in-Refused c = let a = c.args in
     let m : List ℕ → Manager = manager_of a.plan a.areas a.devices a.ages in
     let lent = memory_of a.image.now a.store.now in
     let x = c.round_admission-asked.ensures in
-    let no = refused_some _ _ c.in-Refused.is _ x.0 in (
-      (λ wear. x.0),
-      (
-        (λ wear. round_refused (m wear) a.answers lent no _ c.none.ensures),
-        ((λ wear. ap (λ z. z.image) (round_memory_refused (m wear) a.answers lent no)), (λ wear. ap (λ z. z.store) (round_memory_refused (m wear) a.answers lent no))),
-      ),
-    )
+    let no = refused_some _ _ c.in-Refused.is _ x.0 in record { by_index = (λ wear. x.0); by_index_2 = (λ wear. round_refused (m wear) a.answers lent no _ c.none.ensures); by_index_3 = (λ wear. ap (λ z. z.image) (round_memory_refused (m wear) a.answers lent no)); by_index_4 = (λ wear. ap (λ z. z.store) (round_memory_refused (m wear) a.answers lent no)) }
 
 pub returns-in-Accepted : goal.returns-in-Accepted
 unfolding round_number_of
@@ -41,10 +35,4 @@ returns-in-Accepted c = let a = c.args in
     let lent = memory_of a.image.now a.store.now in
     let x = c.round_admission-asked.ensures in
     let yes = sym x.0 ∙ ap admission_number c.in-Accepted.is in
-    let r = c.run_round-next in (
-      (λ wear. x.0),
-      (
-        (λ wear. round_accepted (m wear) a.answers lent yes r.result.areas r.result.devices (add_worn r.result.worn 4 wear) r.ensures.0 r.ensures.1.0 (r.ensures.1.1.0 wear)),
-        ((λ wear. r.ensures.1.1.1.0 ∙ ap (λ z. z.image) (round_memory_accepted (m wear) a.answers lent yes)), (λ wear. r.ensures.1.1.1.1 ∙ ap (λ z. z.store) (round_memory_accepted (m wear) a.answers lent yes))),
-      ),
-    )
+    let r = c.run_round-next in record { by_index = (λ wear. x.0); by_index_2 = (λ wear. round_accepted (m wear) a.answers lent yes r.result.areas r.result.devices (add_worn r.result.worn 4 wear) r.ensures.0 r.ensures.1.0 (r.ensures.1.1.0 wear)); by_index_3 = (λ wear. r.ensures.1.1.1.0 ∙ ap (λ z. z.image) (round_memory_accepted (m wear) a.answers lent yes)); by_index_4 = (λ wear. r.ensures.1.1.1.1 ∙ ap (λ z. z.store) (round_memory_accepted (m wear) a.answers lent yes)) }
