@@ -26,7 +26,7 @@ returns-then-used-lt1 c = let a = c.args in
     )
 
 pub overflow_add-at : goal.overflow_add-at
-overflow_add-at c = omega (arith, c.play_lines-progress.ensures.written_in_bounds, c.well-formed.1.0)
+overflow_add-at c = omega (arith, c.play_lines-progress.ensures.written_in_bounds, c.well_formed.1.0)
 
 pub returns-then-not-print : goal.returns-then-not-print
 returns-then-not-print c = let a = c.args in

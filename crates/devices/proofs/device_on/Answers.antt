@@ -5,4 +5,4 @@ use borrow.Author.Rules.{rules}
 use Rattle.devices.proofs.device_on.Goals as goal
 
 pub returns-then-device-ge4 : goal.returns-then-device-ge4
-returns-then-device-ge4 c = c.free.ensures ∙ sym (device_past c.args.devices c.args.device (omega (arith, c.well-formed.0.1.0.1, c.if-device-ge4.true)))
+returns-then-device-ge4 c = c.free.ensures ∙ sym (device_past c.args.devices c.args.device (omega (arith, c.well_formed.0.1.0.1, c.if-device-ge4.true)))

@@ -5,4 +5,4 @@ use borrow.Author.Rules.{rules}
 use Rattle.shown.proofs.job_of.Goals as goal
 
 pub returns-then-area-ge8 : goal.returns-then-area-ge8
-returns-then-area-ge8 c = ap (λ x. x.job) c.fresh-fresh.ensures ∙ sym (job_past c.args.areas c.args.area (omega (arith, c.well-formed.0.1.0.1, c.if-area-ge8.true)))
+returns-then-area-ge8 c = ap (λ x. x.job) c.fresh-fresh.ensures ∙ sym (job_past c.args.areas c.args.area (omega (arith, c.well_formed.0.1.0.1, c.if-area-ge8.true)))

@@ -68,7 +68,7 @@ pub loop-d-init : goal.loop-d-init
 unfolding take_all
 loop-d-init c = let s = c in
     let few = sound_counts s.args.plan s.args.areas s.args.devices s.requires.0 in
-    (few.0, few.1, few.2, omega arith, refl, refl, refl, refl, refl, s.well-formed.1.1.0.1.0.1, s.well-formed.1.1.1.0.1.0.1, s.well-formed.1.1.1.1.1.0.1.0.1, refl, s.requires.3)
+    (few.0, few.1, few.2, omega arith, refl, refl, refl, refl, refl, s.well_formed.1.1.0.1.0.1, s.well_formed.1.1.1.0.1.0.1, s.well_formed.1.1.1.1.1.0.1.0.1, refl, s.requires.3)
 
 pub offset_bounds-devices-d : goal.offset_bounds-devices-d
 offset_bounds-devices-d c = omega (arith, c.loop-d.invariant.0, c.loop-d-test.true)
