@@ -11,4 +11,4 @@ pub returns-then-not-is_pending-2 : goal.returns-then-not-is_pending-2
 returns-then-not-is_pending-2 c = rw (sym c.is_pending.ensures ∙ c.if-not-is_pending.false, sym c.is_pending-2.ensures ∙ c.if-not-is_pending-2.true)
 
 pub returns : goal.returns
-returns c = rw (sym c.is_pending.ensures ∙ c.if-not-is_pending.false, sym c.is_pending-2.ensures ∙ c.if-not-is_pending-2.false) (ap (λ w. record { job = c.args.after.job; waits = w }) (c.counted-waits.ensures ∙ ap (λ k. counted k c.args.waits) c.wait_on-wait.ensures))
+returns c = rw (sym c.is_pending.ensures ∙ c.if-not-is_pending.false, sym c.is_pending-2.ensures ∙ c.if-not-is_pending-2.false) (ap (λ w. record { job = c.args.after.job; waits = w }) (c.counted-waits.ensures ∙ ap (λ k. counted k c.args.before.waits) c.wait_on-wait.ensures))

@@ -13,7 +13,7 @@ abbrev pub invariant-loop-next : goal.invariant-loop-next
 invariant-loop-next l = (l.x < l.next)
     × (l.next ≤ l.task.length)
     × Cut (segment_at l.plan l.area l.task) l.task l.next
-    × (ranges_of (segments_from (segment_at l.plan l.area l.task) l.task l.x) ≡ ranges_after (record { l.device = l.device; l.start = l.start; l.length = l.length }) (segments_from (segment_at l.plan l.area l.task) l.task l.next))
+    × (ranges_of (segments_from (segment_at l.plan l.area l.task) l.task l.x) ≡ ranges_after (record { device = l.device; start = l.start; length = l.length }) (segments_from (segment_at l.plan l.area l.task) l.task l.next))
     × (1 ≤ l.length)
     × (l.start + l.length ≤ 16777216)
     × (l.task.length ≤ 4294967295)
