@@ -14,8 +14,8 @@ loop-i-preserved c = let inv = c.loop-i.invariant in
     let called = c.cancel-answered.ensures in
     let told = c.number-number.ensures in (
       omega arith,
-      rw (repeated_more, ← inv.1) called.1,
-      rw (total_more, ← inv.1, ← inv.2) (ap (◌+◌ _) (told ∙ called.0)),
+      rw (repeated_more, ← inv.1) called.manager_value,
+      rw (total_more, ← inv.1, ← inv.2) (ap (◌+◌ _) (told ∙ called.answer_value)),
       omega arith,
     )
 

@@ -13,7 +13,7 @@ pub loop-i-preserved : goal.loop-i-preserved
 loop-i-preserved c = let here = c.loop-i in
     let asked = c.job_info-asked.ensures in (
       omega arith,
-      rw (total_more, repeated_query, ← here.invariant.1) (ap (λ info. here.sum + info.task.length) asked.1.0),
+      rw (total_more, repeated_query, ← here.invariant.1) (ap (λ info. here.sum + info.task.length) asked.info_value),
       omega arith,
     )
 

@@ -15,9 +15,9 @@ loop-i-preserved c = let here = c.loop-i in
     let begun = c.submit-begun.ensures in
     let ended = c.cancel-ended.ensures in (
       omega arith,
-      rw (repeated_more, ← inv.1, ← begun.1) ended.1,
-      rw (total_more, ← inv.1, ← inv.2, ← begun.1)
-          (ap₂ (λ x y. here.sum + (x + y)) (c.number-first_number.ensures ∙ begun.0) (c.number-second_number.ensures ∙ ended.0)),
+      rw (repeated_more, ← inv.1, ← begun.manager_value) ended.manager_value,
+      rw (total_more, ← inv.1, ← inv.2, ← begun.manager_value)
+          (ap₂ (λ x y. here.sum + (x + y)) (c.number-first_number.ensures ∙ begun.answer_value) (c.number-second_number.ensures ∙ ended.answer_value)),
       omega arith,
     )
 

@@ -19,8 +19,8 @@ loop-i-preserved c = let here = c.loop-i in
       omega arith,
       omega (arith, inv.1),
       omega (arith, inv.2),
-      rw (rounds_more, ← inv.3) (bench_is _ _ _ _ _ done.1.0 done.1.1.0 done.1.1.1),
-      rw (total_more_rounds, ← inv.3, ← inv.4) (ap (◌+◌ here.sum) (told ∙ done.0)),
+      rw (rounds_more, ← inv.3) (bench_is _ _ _ _ _ done.manager_value done.image_after done.store_after),
+      rw (total_more_rounds, ← inv.3, ← inv.4) (ap (◌+◌ here.sum) (told ∙ done.answer_value)),
       omega arith,
     )
 

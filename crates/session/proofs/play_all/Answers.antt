@@ -12,4 +12,4 @@ pub returns : goal.returns
 returns c = let a = c.args in
     let o = c.«open».ensures in
     let l = c.play_lines.ensures in
-    record { used_after = all_lines a.plan.now a.input.now a.image.now a.store.now _ _ o.0 o.1.0.0 c.if-opened-gt0.false l.0; written_in_bounds = l.1 }
+    record { used_after = all_lines a.plan.now a.input.now a.image.now a.store.now _ _ o.0 o.1.0.0 c.if-opened-gt0.false l.used_after; written_in_bounds = l.written_in_bounds }

@@ -8,4 +8,4 @@ pub returns-in-NoJob : goal.returns-in-NoJob
 returns-in-NoJob c = rw c.in-NoJob.is c.print_unreadable.ensures
 
 pub returns-in-Job : goal.returns-in-Job
-returns-in-Job c = let e = c.print_job.ensures in rw c.in-Job.is (record { written = e.0; fits = e.1.0.0; few = e.1.0.1; full = e.1.1 })
+returns-in-Job c = let e = c.print_job.ensures in rw c.in-Job.is (record { written = e.written; fits = e.fits.0; few = e.fits.1; full = e.out_len_bound })

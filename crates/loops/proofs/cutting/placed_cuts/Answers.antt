@@ -38,4 +38,4 @@ returns c = let here = c.loop-i in
     let times = c.args.times in
     here.invariant.3
     ∙ ap (placed_total loaded.result.manager.plan.sub_areas made.result) {x = here.i} {y = times} (omega arith)
-    ∙ ap₂ (λ m t. placed_total m.plan.sub_areas t times) loaded.ensures.1 made.ensures
+    ∙ ap₂ (λ m t. placed_total m.plan.sub_areas t times) loaded.ensures.manager_value made.ensures

@@ -27,12 +27,12 @@ loop-i-preserved c = let here = c.loop-i in
     let task = c.task_of-task.ensures in
     let begun = c.submit-begun.ensures in
     let ended = c.cancel-ended.ensures in
-    let next = begun.1.0 ∙ ap (λ t. after_job (manager_in here.grown) (turn here.i) t) task in (
+    let next = begun.grown_value.0 ∙ ap (λ t. after_job (manager_in here.grown) (turn here.i) t) task in (
       omega (arith, c.loop-i-test.true),
-      rw (repeated_more, ← inv.1, ← next) ended.1.0,
-      rw (total_more, ← inv.1, ← inv.2, ← next) (ap₂ (λ x y. here.sum + (x + y)) (c.number-first_number.ensures ∙ begun.0 ∙ ap (λ t. job_number_of (manager_in here.grown) (turn here.i) t) task) (c.number-second_number.ensures ∙ ended.0)),
+      rw (repeated_more, ← inv.1, ← next) ended.grown_value.0,
+      rw (total_more, ← inv.1, ← inv.2, ← next) (ap₂ (λ x y. here.sum + (x + y)) (c.number-first_number.ensures ∙ begun.answer_value ∙ ap (λ t. job_number_of (manager_in here.grown) (turn here.i) t) task) (c.number-second_number.ensures ∙ ended.answer_value)),
       omega (arith, inv.3, c.number-first_number.type_inv, c.number-second_number.type_inv),
-      ended.1.1 ∙ begun.1.1 ∙ inv.4,
+      ended.grown_value.1 ∙ begun.grown_value.1 ∙ inv.4,
     )
 
 pub rest_of-requires : goal.rest_of-requires

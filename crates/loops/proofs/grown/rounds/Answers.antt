@@ -26,10 +26,10 @@ loop-i-preserved c = let here = c.loop-i in
       omega arith,
       omega (arith, inv.1),
       omega (arith, inv.2),
-      rw (rounds_more, ← inv.3) (bench_is _ _ _ _ _ done.1.0.0 done.1.1.0 done.1.1.1),
-      rw (total_more_rounds, ← inv.3, ← inv.4) (ap (◌+◌ here.sum) (c.number-number.ensures ∙ done.0)),
+      rw (rounds_more, ← inv.3) (bench_is _ _ _ _ _ done.grown_value.0 done.image_after done.store_after),
+      rw (total_more_rounds, ← inv.3, ← inv.4) (ap (◌+◌ here.sum) (c.number-number.ensures ∙ done.answer_value)),
       omega arith,
-      done.1.0.1 ∙ inv.6,
+      done.grown_value.1 ∙ inv.6,
     )
 
 pub rest_of-rest-requires : goal.rest_of-rest-requires

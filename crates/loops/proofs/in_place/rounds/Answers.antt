@@ -24,8 +24,8 @@ loop-i-preserved c = let here = c.loop-i in
       omega arith,
       omega (arith, inv.1),
       omega (arith, inv.2),
-      rw (rounds_more, ← inv.3) (bench_is _ _ _ _ _ (worn ∙ r.ensures.1.0 wear) (r.ensures.1.1.0 wear) (r.ensures.1.1.1 wear)),
-      rw (total_more_rounds, ← inv.3, ← inv.4) (ap (◌+◌ here.sum) (c.number-number.ensures ∙ r.ensures.0 wear)),
+      rw (rounds_more, ← inv.3) (bench_is _ _ _ _ _ (worn ∙ r.ensures.by_index_2 wear) (r.ensures.by_index_3 wear) (r.ensures.by_index_4 wear)),
+      rw (total_more_rounds, ← inv.3, ← inv.4) (ap (◌+◌ here.sum) (c.number-number.ensures ∙ r.ensures.by_index wear)),
       omega arith,
     )
 

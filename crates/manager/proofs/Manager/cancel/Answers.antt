@@ -13,8 +13,8 @@ pub stop-change-requires : goal.stop-change-requires
 stop-change-requires c = let a = c.args in
     let k = c.ask-asked.ensures in
     let x = c.cancel_admission-answer in
-    let is = x.ensures ∙ ap (λ z. first_no 9 (z.sound ∷ is_known a.self.plan a.area ∷ skip 6 (is_pending z.area.job ∷ []))) k.0 in
-    (cancel_asked a.self.plan a.self.areas a.self.devices a.self.ages a.self.wear a.area x.result is c.in-Accepted.is, k.1)
+    let is = x.ensures ∙ ap (λ z. first_no 9 (z.sound ∷ is_known a.self.plan a.area ∷ skip 6 (is_pending z.area.job ∷ []))) k.value in
+    (cancel_asked a.self.plan a.self.areas a.self.devices a.self.ages a.self.wear a.area x.result is c.in-Accepted.is, k.number_bound)
 
 pub with-requires : goal.with-requires
 with-requires c = let r = c.stop-change.ensures in
@@ -24,7 +24,7 @@ pub returns-in-Refused : goal.returns-in-Refused
 returns-in-Refused c = let a = c.args in
     let k = c.ask-asked.ensures in
     let x = c.cancel_admission-answer in
-    let is = x.ensures ∙ ap (λ z. first_no 9 (z.sound ∷ is_known a.self.plan a.area ∷ skip 6 (is_pending z.area.job ∷ []))) k.0 in
+    let is = x.ensures ∙ ap (λ z. first_no 9 (z.sound ∷ is_known a.self.plan a.area ∷ skip 6 (is_pending z.area.job ∷ []))) k.value in
     cancel_none a.self.plan a.self.areas a.self.devices a.self.ages a.self.wear a.area x.result is _ c.in
     let both = -Refused.is in
     record { answer_value = both.0; manager_value = both.1 }
@@ -33,9 +33,9 @@ pub returns-in-Accepted : goal.returns-in-Accepted
 returns-in-Accepted c = let a = c.args in
     let k = c.ask-asked.ensures in
     let x = c.cancel_admission-answer in
-    let is = x.ensures ∙ ap (λ z. first_no 9 (z.sound ∷ is_known a.self.plan a.area ∷ skip 6 (is_pending z.area.job ∷ []))) k.0 in
+    let is = x.ensures ∙ ap (λ z. first_no 9 (z.sound ∷ is_known a.self.plan a.area ∷ skip 6 (is_pending z.area.job ∷ []))) k.value in
     let r = c.stop-change in
-    let f = r.ensures ∙ ap (λ z. stopped_change a.self.plan z a.self.devices a.self.ages) k.0 in
+    let f = r.ensures ∙ ap (λ z. stopped_change a.self.plan z a.self.devices a.self.ages) k.value in
     let j = cancel_stopped a.self.plan a.self.areas a.self.devices a.self.ages a.self.wear a.area x.result is c.in-Accepted.is r.result f in
     
     let both = rw c.with.ensures (j.0, j.1) in

@@ -16,8 +16,8 @@ pub begin-change-requires : goal.begin-change-requires
 begin-change-requires c = let a = c.args in
     let k = c.ask-asked.ensures in
     let x = c.idle_admission-answer in
-    let is = x.ensures ∙ ap (λ z. first_no 9 (z.sound ∷ is_known a.self.plan a.area ∷ not (is_pending z.area.job) ∷ [])) k.0 in
-    (job_asked a.self.plan a.self.areas a.self.devices a.self.ages a.self.wear a.area a.task x.result is c.in-Accepted.is, k.1)
+    let is = x.ensures ∙ ap (λ z. first_no 9 (z.sound ∷ is_known a.self.plan a.area ∷ not (is_pending z.area.job) ∷ [])) k.value in
+    (job_asked a.self.plan a.self.areas a.self.devices a.self.ages a.self.wear a.area a.task x.result is c.in-Accepted.is, k.number_bound)
 
 pub with-requires : goal.with-requires
 with-requires c = let r = c.begin-change.ensures.value in
@@ -27,7 +27,7 @@ pub returns-in-Refused : goal.returns-in-Refused
 returns-in-Refused c = let a = c.args in
     let k = c.ask-asked.ensures in
     let x = c.idle_admission-answer in
-    let is = x.ensures ∙ ap (λ z. first_no 9 (z.sound ∷ is_known a.self.plan a.area ∷ not (is_pending z.area.job) ∷ [])) k.0 in
+    let is = x.ensures ∙ ap (λ z. first_no 9 (z.sound ∷ is_known a.self.plan a.area ∷ not (is_pending z.area.job) ∷ [])) k.value in
     job_none a.self.plan a.self.areas a.self.devices a.self.ages a.self.wear a.area a.task x.result is _ c.in
     let both = -Refused.is in
     record { answer_value = both.0; manager_value = both.1 }
@@ -36,10 +36,10 @@ pub returns-in-Accepted : goal.returns-in-Accepted
 returns-in-Accepted c = let a = c.args in
     let k = c.ask-asked.ensures in
     let x = c.idle_admission-answer in
-    let is = x.ensures ∙ ap (λ z. first_no 9 (z.sound ∷ is_known a.self.plan a.area ∷ not (is_pending z.area.job) ∷ [])) k.0 in
+    let is = x.ensures ∙ ap (λ z. first_no 9 (z.sound ∷ is_known a.self.plan a.area ∷ not (is_pending z.area.job) ∷ [])) k.value in
     let r = c.begin-change in
-    let n = r.ensures.0 ∙ ap (λ z. first_no 12 (range_questions a.self.plan z.number a.task)) k.0 in
-    let f = r.ensures.1 ∙ ap (λ z. begun_change r.result.answer a.self.plan z (get_or a.self.devices 0 free_device) a.self.ages a.task) k.0 in
+    let n = r.ensures.answer_value ∙ ap (λ z. first_no 12 (range_questions a.self.plan z.number a.task)) k.value in
+    let f = r.ensures.value ∙ ap (λ z. begun_change r.result.answer a.self.plan z (get_or a.self.devices 0 free_device) a.self.ages a.task) k.value in
     let j = job_begun a.self.plan a.self.areas a.self.devices a.self.ages a.self.wear a.area a.task x.result is c.in-Accepted.is r.result (get_or a.self.devices 0 free_device) refl n f in
     
     let both = rw c.with.ensures (j.0, j.1) in

@@ -17,8 +17,8 @@ run_round-next-requires c = let a = c.args in
     let m = manager_of a.plan a.areas a.devices a.ages [] in
     let lent = memory_of a.image.now a.store.now in
     let x = c.round_admission-asked.ensures in
-    let asked = round_asked m a.answers lent (sym x.0 ∙ ap admission_number c.in-Accepted.is) in
-    (asked.0, asked.1, asked.2, x.1 asked.0)
+    let asked = round_asked m a.answers lent (sym x.answer_value ∙ ap admission_number c.in-Accepted.is) in
+    (asked.0, asked.1, asked.2, x.due_if_sound asked.0)
 
 pub returns-in-Refused : goal.returns-in-Refused
 unfolding round_number_of
@@ -26,7 +26,7 @@ returns-in-Refused c = let a = c.args in
     let m : List ℕ → Manager = manager_of a.plan a.areas a.devices a.ages in
     let lent = memory_of a.image.now a.store.now in
     let x = c.round_admission-asked.ensures in
-    let no = refused_some _ _ c.in-Refused.is _ x.0 in record { by_index = (λ wear. x.0); by_index_2 = (λ wear. round_refused (m wear) a.answers lent no _ c.none.ensures); by_index_3 = (λ wear. ap (λ z. z.image) (round_memory_refused (m wear) a.answers lent no)); by_index_4 = (λ wear. ap (λ z. z.store) (round_memory_refused (m wear) a.answers lent no)) }
+    let no = refused_some _ _ c.in-Refused.is _ x.answer_value in record { by_index = (λ wear. x.answer_value); by_index_2 = (λ wear. round_refused (m wear) a.answers lent no _ c.none.ensures); by_index_3 = (λ wear. ap (λ z. z.image) (round_memory_refused (m wear) a.answers lent no)); by_index_4 = (λ wear. ap (λ z. z.store) (round_memory_refused (m wear) a.answers lent no)) }
 
 pub returns-in-Accepted : goal.returns-in-Accepted
 unfolding round_number_of
@@ -34,5 +34,5 @@ returns-in-Accepted c = let a = c.args in
     let m : List ℕ → Manager = manager_of a.plan a.areas a.devices a.ages in
     let lent = memory_of a.image.now a.store.now in
     let x = c.round_admission-asked.ensures in
-    let yes = sym x.0 ∙ ap admission_number c.in-Accepted.is in
-    let r = c.run_round-next in record { by_index = (λ wear. x.0); by_index_2 = (λ wear. round_accepted (m wear) a.answers lent yes r.result.areas r.result.devices (add_worn r.result.worn 4 wear) r.ensures.0 r.ensures.1.0 (r.ensures.1.1.0 wear)); by_index_3 = (λ wear. r.ensures.1.1.1.0 ∙ ap (λ z. z.image) (round_memory_accepted (m wear) a.answers lent yes)); by_index_4 = (λ wear. r.ensures.1.1.1.1 ∙ ap (λ z. z.store) (round_memory_accepted (m wear) a.answers lent yes)) }
+    let yes = sym x.answer_value ∙ ap admission_number c.in-Accepted.is in
+    let r = c.run_round-next in record { by_index = (λ wear. x.answer_value); by_index_2 = (λ wear. round_accepted (m wear) a.answers lent yes r.result.areas r.result.devices (add_worn r.result.worn 4 wear) r.ensures.areas_value r.ensures.devices_value (r.ensures.by_index wear)); by_index_3 = (λ wear. r.ensures.image_after ∙ ap (λ z. z.image) (round_memory_accepted (m wear) a.answers lent yes)); by_index_4 = (λ wear. r.ensures.store_after ∙ ap (λ z. z.store) (round_memory_accepted (m wear) a.answers lent yes)) }

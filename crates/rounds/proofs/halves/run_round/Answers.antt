@@ -61,7 +61,7 @@ loop-k-preserved c = let s = c in
     let more = c.loop-k-test.true in
     let r = c.runner-area in
     let found : ℕ → Worn = λ a. worn_on (state_in s.args.devices l.k) (answer_for s.args.answers l.k) (job_in s.args.areas a).task.kind (get_or s.args.dues a no_segment) in
-    let is : c.worn_by.result ≡ worn_for s.args.areas s.args.devices s.args.dues s.args.answers l.k = c.worn_by.ensures ∙ ap found r.ensures.0 in
+    let is : c.worn_by.result ≡ worn_for s.args.areas s.args.devices s.args.dues s.args.answers l.k = c.worn_by.ensures ∙ ap found r.ensures.value in
     (l.invariant.0, omega (arith, more), (λ i. set (l.invariant.2 i) l.k (is i)) ∙ sym (table_more 4 _ _ _))
 
 pub loop-d-init : goal.loop-d-init
@@ -115,7 +115,7 @@ loop-d-preserved c = let s = c in
     let turn = whole_turn p l.invariant.1 l.d (answer_for s.args.answers l.d) l.areas l.devices l.dues l.image l.store
     (turn_sound p s.args.areas s.args.devices s.requires.0 s.args.answers (memory_of s.args.image.now s.args.store.now) l.d (core_in l.areas l.devices) (ap (λ x. x.0) l.invariant.12) c.loop-d-test.true)
     (image_again _ _ _ l.invariant.7 s.requires.1) (store_again _ _ _ l.invariant.8 s.requires.2) l.invariant.13 _ _ _ l.invariant.4 l.invariant.5 l.invariant.6 c.runner-area-in-loop-d.result c.runner-area-in-loop-d.ensures.value l.invariant.9 l.invariant.10 l.invariant.11 (omega (arith, l.invariant.0, c.loop-d-test.true))
-    t.result.area t.result.due t.result.device _ _ t.ensures.0 t.ensures.1.0 t.ensures.1.1.0 t.ensures.1.1.1.0 t.ensures.1.1.1.1 in (
+    t.result.area t.result.due t.result.device _ _ t.ensures.area_value t.ensures.due_value t.ensures.device_value t.ensures.image_after t.ensures.store_after in (
       l.invariant.0,
       l.invariant.1,
       l.invariant.2,

@@ -3,4 +3,4 @@ use Rattle.interface.proofs.queries.JobInfoView.of.Goals as goal
 
 pub returns : goal.returns
 returns c = let j = c.job_info-asked.ensures in
-    rw (c.number-2.ensures, c.number.ensures, j.0, j.1.0)
+    rw (c.number-2.ensures, c.number.ensures, j.answer_value, j.info_value)

@@ -3,4 +3,4 @@ use Rattle.interface.proofs.queries.MemoryInfoView.of.Goals as goal
 
 pub returns : goal.returns
 returns c = let m = c.memory_info-asked.ensures in
-    rw (c.number.ensures, m.0, m.1)
+    rw (c.number.ensures, m.answer_value, m.info_value)
