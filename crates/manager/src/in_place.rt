@@ -34,9 +34,9 @@ pub fn job_change(
     area: usize,
     task: Task,
 ) -> Change
-    ensures by_index { (wear : List ℕ) → admission_number result.answer ≡ job_number_of (manager_of plan areas devices ages wear) area task }
-    ensures by_index_2 { (wear : List ℕ) → changed (manager_of plan areas devices ages wear) result ≡ after_job (manager_of plan areas devices ages wear) area task }
-    ensures area_number_bound { (result.area_number < 8) × (result.device_number < 4) }
+    ensures answer_value { (wear : List ℕ) → admission_number result.answer ≡ job_number_of (manager_of plan areas devices ages wear) area task }
+    ensures manager_value { (wear : List ℕ) → changed (manager_of plan areas devices ages wear) result ≡ after_job (manager_of plan areas devices ages wear) area task }
+    ensures numbers_bound { (result.area_number < 8) × (result.device_number < 4) }
 {
     let asked = ask(plan, areas, devices, area);
     let answer = idle_admission(asked.sound, plan.area_count, area, asked.area.job);
@@ -53,9 +53,9 @@ pub fn cancel_change(
     ages: [u8; 8],
     area: usize,
 ) -> Change
-    ensures by_index { (wear : List ℕ) → admission_number result.answer ≡ cancel_number_of (manager_of plan areas devices ages wear) area }
-    ensures by_index_2 { (wear : List ℕ) → changed (manager_of plan areas devices ages wear) result ≡ after_cancel (manager_of plan areas devices ages wear) area }
-    ensures area_number_bound { (result.area_number < 8) × (result.device_number < 4) }
+    ensures answer_value { (wear : List ℕ) → admission_number result.answer ≡ cancel_number_of (manager_of plan areas devices ages wear) area }
+    ensures manager_value { (wear : List ℕ) → changed (manager_of plan areas devices ages wear) result ≡ after_cancel (manager_of plan areas devices ages wear) area }
+    ensures numbers_bound { (result.area_number < 8) × (result.device_number < 4) }
 {
     let asked = ask(plan, areas, devices, area);
     let answer = cancel_admission(asked.sound, plan.area_count, area, asked.area.job);
@@ -74,9 +74,9 @@ pub fn release_change(
     address: LogicalAddress,
     length: u32,
 ) -> Change
-    ensures by_index { (wear : List ℕ) → admission_number result.answer ≡ release_number_of (manager_of plan areas devices ages wear) area address length }
-    ensures by_index_2 { (wear : List ℕ) → changed (manager_of plan areas devices ages wear) result ≡ after_release (manager_of plan areas devices ages wear) area address length }
-    ensures area_number_bound { (result.area_number < 8) × (result.device_number < 4) }
+    ensures answer_value { (wear : List ℕ) → admission_number result.answer ≡ release_number_of (manager_of plan areas devices ages wear) area address length }
+    ensures manager_value { (wear : List ℕ) → changed (manager_of plan areas devices ages wear) result ≡ after_release (manager_of plan areas devices ages wear) area address length }
+    ensures numbers_bound { (result.area_number < 8) × (result.device_number < 4) }
 {
     let sound = is_sound(plan, areas, devices);
     let answer = release_admission(sound, plan, devices, area, address, length);
@@ -109,10 +109,10 @@ pub fn round_change(
     image: &mut [u8],
     store: &mut [u8],
 ) -> RoundChange
-    ensures by_index { (wear : List ℕ) → admission_number result.answer ≡ round_number_of (manager_of plan areas devices ages wear) (memory_of image.old store.old) }
-    ensures by_index_2 { (wear : List ℕ) → manager_of plan result.areas result.devices ages (add_worn result.worn 4 wear) ≡ after_round (manager_of plan areas devices ages wear) answers (memory_of image.old store.old) }
-    ensures by_index_3 { (wear : List ℕ) → image.new ≡ (memory_after_round (manager_of plan areas devices ages wear) answers (memory_of image.old store.old)).image }
-    ensures by_index_4 { (wear : List ℕ) → store.new ≡ (memory_after_round (manager_of plan areas devices ages wear) answers (memory_of image.old store.old)).store }
+    ensures answer_value { (wear : List ℕ) → admission_number result.answer ≡ round_number_of (manager_of plan areas devices ages wear) (memory_of image.old store.old) }
+    ensures manager_value { (wear : List ℕ) → manager_of plan result.areas result.devices ages (add_worn result.worn 4 wear) ≡ after_round (manager_of plan areas devices ages wear) answers (memory_of image.old store.old) }
+    ensures image_after { (wear : List ℕ) → image.new ≡ (memory_after_round (manager_of plan areas devices ages wear) answers (memory_of image.old store.old)).image }
+    ensures store_after { (wear : List ℕ) → store.new ≡ (memory_after_round (manager_of plan areas devices ages wear) answers (memory_of image.old store.old)).store }
 {
     let asked = round_admission(plan, areas, devices, image, store);
     let answer = asked.answer;

@@ -105,8 +105,8 @@ fn no_job_info() -> JobInfo
 
 // A job's info for an owner who keeps the manager in one place: ages and wear have no part in it.
 pub fn info_of(plan: Plan, areas: [Area; 8], devices: [Device; 4], area: usize) -> JobInfoAnswer
-    ensures by_index { (ages wear : List ℕ) → admission_number result.answer ≡ info_number_of (manager_of plan areas devices ages wear) area }
-    ensures by_index_2 { (ages wear : List ℕ) → result.info ≡ info_of (manager_of plan areas devices ages wear) area }
+    ensures answer_value { (ages wear : List ℕ) → admission_number result.answer ≡ info_number_of (manager_of plan areas devices ages wear) area }
+    ensures info_value { (ages wear : List ℕ) → result.info ≡ info_of (manager_of plan areas devices ages wear) area }
 {
     let sound = is_sound(plan, areas, devices);
     let answer = info_admission(sound, plan, area);

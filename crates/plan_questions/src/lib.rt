@@ -181,7 +181,7 @@ fn size_in(sub_area: SubAreaRecord, area: usize) -> u64
 
 pub fn area_size(sub_areas: [SubAreaRecord; 32], count: usize, area: usize) -> u64
     requires count_bound { count ≤ 32 }
-    requires by_index { (i : ℕ) → i < count → size_of (sub_area_of sub_areas i) ≤ 16777216 }
+    requires sizes_bound { (i : ℕ) → i < count → size_of (sub_area_of sub_areas i) ≤ 16777216 }
     ensures { (result ≡ area_size sub_areas count area) × (result ≤ 536870912) }
 {
     let mut size: u64 = 0;
@@ -200,7 +200,7 @@ fn space_fits(
     area: usize,
 ) -> bool
     requires count_bound { count ≤ 32 }
-    requires by_index { (i : ℕ) → i < count → size_of (sub_area_of sub_areas i) ≤ 16777216 }
+    requires sizes_bound { (i : ℕ) → i < count → size_of (sub_area_of sub_areas i) ≤ 16777216 }
     ensures { result ≡ space_fits start.0 sub_areas count area }
 {
     if !has_sub_area(sub_areas, count, area) {
@@ -216,7 +216,7 @@ fn all_spaces_fit(
     count: usize,
 ) -> bool
     requires area_count_bound { (area_count ≤ 8) × (count ≤ 32) }
-    requires by_index { (i : ℕ) → i < count → size_of (sub_area_of sub_areas i) ≤ 16777216 }
+    requires sizes_bound { (i : ℕ) → i < count → size_of (sub_area_of sub_areas i) ≤ 16777216 }
     ensures { result ≡ every (λ a. space_fits (area_of areas a).start.0 sub_areas count a) area_count }
 {
     let mut a = 0;
@@ -233,7 +233,7 @@ fn all_spaces_fit(
 // Question 7.
 pub fn spaces_fit(plan: Plan) -> bool
     requires area_count_bound { (plan.area_count ≤ 8) × (1 ≤ plan.sub_area_count) × (plan.sub_area_count ≤ 32) }
-    requires by_index { (i : ℕ) → i < plan.sub_area_count → size_of (sub_area_of plan.sub_areas i) ≤ 16777216 }
+    requires sizes_bound { (i : ℕ) → i < plan.sub_area_count → size_of (sub_area_of plan.sub_areas i) ≤ 16777216 }
     ensures { result ≡ spaces_fit plan }
 {
     let sub_areas = plan.sub_areas;

@@ -59,7 +59,7 @@ pub fn run_round(
     requires { (is_sound plan areas devices ≡ true) × (image_fits plan image.old ≡ true) × (store_reaches plan store.old ≡ true) × Due plan dues (job_in areas) }
     ensures areas_value { result.areas ≡ areas_after (layout_at plan (age_in ages)) areas (halves_of plan areas devices ages answers (memory_of image.old store.old)).core }
     ensures devices_value { result.devices ≡ devices_after (halves_of plan areas devices ages answers (memory_of image.old store.old)).core }
-    ensures by_index { (wear : List ℕ) → add_worn result.worn 4 wear ≡ wear_after_round plan areas devices answers (memory_of image.old store.old) wear }
+    ensures worn_value { (wear : List ℕ) → add_worn result.worn 4 wear ≡ wear_after_round plan areas devices answers (memory_of image.old store.old) wear }
     ensures image_after { image.new ≡ (halves_of plan areas devices ages answers (memory_of image.old store.old)).memory.image }
     ensures store_after { store.new ≡ (halves_of plan areas devices ages answers (memory_of image.old store.old)).memory.store }
 {

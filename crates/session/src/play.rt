@@ -65,9 +65,9 @@ pub fn make(
     ages: [u8; 8],
     call: LineCall,
 ) -> Change
-    ensures by_index { (wear : List ℕ) → admission_number result.answer ≡ number_of_call call (manager_of plan areas devices ages wear) }
-    ensures by_index_2 { (wear : List ℕ) → changed (manager_of plan areas devices ages wear) result ≡ after_call call (manager_of plan areas devices ages wear) }
-    ensures area_number_bound { (result.area_number < 8) × (result.device_number < 4) }
+    ensures answer_value { (wear : List ℕ) → admission_number result.answer ≡ number_of_call call (manager_of plan areas devices ages wear) }
+    ensures manager_value { (wear : List ℕ) → changed (manager_of plan areas devices ages wear) result ≡ after_call call (manager_of plan areas devices ages wear) }
+    ensures numbers_bound { (result.area_number < 8) × (result.device_number < 4) }
 {
     let plain = plain_of(call);
     match plain {

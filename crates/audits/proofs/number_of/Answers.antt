@@ -3,4 +3,4 @@ use borrow.Author.Rules.{rules}
 use Rattle.audits.proofs.number_of.Goals as goal
 
 pub returns : goal.returns
-returns c = c.number.ensures ∙ c.job_change-change.ensures.by_index c.args.manager.wear
+returns c = c.number.ensures ∙ c.job_change-change.ensures.answer_value c.args.manager.wear

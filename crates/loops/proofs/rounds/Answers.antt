@@ -28,9 +28,4 @@ pub returns : goal.returns
 returns c = let here = c.loop-i in
     let inv = here.invariant in
     let all : c.args.times ≡ here.i = omega arith in
-    
-    let both = rw (← c.busy-manager.ensures, ← c.answer_of-answers.ensures, all) (
-      rw (← inv.3, ← inv.4) (ap (◌+◌ here.sum) c.left_sum.ensures.value),
-      (ap (λ b. b.lent.image) inv.3, ap (λ b. b.lent.store) inv.3),
-    ) in
-    record { value = both.0; image_after = both.1.0; store_after = both.1.1 }
+    rw (← c.busy-manager.ensures, ← c.answer_of-answers.ensures, all) (record { value = rw (← inv.3, ← inv.4) (ap (◌+◌ here.sum) c.left_sum.ensures.value); image_after = ap (λ b. b.lent.image) inv.3; store_after = ap (λ b. b.lent.store) inv.3 })

@@ -14,13 +14,13 @@ loop-i-init c = (omega arith, refl, omega arith)
 pub overflow_add-size : goal.overflow_add-size
 overflow_add-size c = let l = c.loop-i in
     let a = c.args in
-    let few = size_in_few a.area (sub_area_of a.sub_areas l.i) (c.requires.by_index l.i (omega arith)) in
+    let few = size_in_few a.area (sub_area_of a.sub_areas l.i) (c.requires.sizes_bound l.i (omega arith)) in
     omega (arith, c.size_in-size.ensures)
 
 pub loop-i-preserved : goal.loop-i-preserved
 loop-i-preserved c = let l = c.loop-i in
     let a = c.args in
-    let few = size_in_few a.area (sub_area_of a.sub_areas l.i) (c.requires.by_index l.i (omega arith)) in
+    let few = size_in_few a.area (sub_area_of a.sub_areas l.i) (c.requires.sizes_bound l.i (omega arith)) in
     let more = size_more a.sub_areas a.area l.i in
     (omega arith, omega (arith, c.size_in-size.ensures), omega (arith, c.size_in-size.ensures))
 

@@ -36,7 +36,7 @@ pub spaces_fit-requires : goal.spaces_fit-requires
 spaces_fit-requires c = let few = counts _ _ _ c.requires in
     let d = sym c.devices_join.ensures ∙ c.if-not-devices_join.false in
     let e = sym c.places_fit.ensures ∙ c.if-not-places_fit.false in
-    record { area_count_bound = (omega arith, omega arith, omega arith); by_index = size_few _ d e }
+    record { area_count_bound = (omega arith, omega arith, omega arith); sizes_bound = size_few _ d e }
 
 pub returns-then-not-spaces_fit : goal.returns-then-not-spaces_fit
 unfolding Rattle.arith.specs.FirstNo.first_no Rattle.plan.specs.Questions.record_questions

@@ -27,10 +27,10 @@ loop-i-preserved c = let here = c.loop-i in
     let task = c.task_of-task.ensures in
     let begun = c.job_change-change.ensures in
     let ended = c.cancel_change-change.ensures in
-    let next = begun.by_index_2 here.grown.wear ∙ ap (λ t. after_job (manager_in here.grown) (turn here.i) t) task in (
+    let next = begun.manager_value here.grown.wear ∙ ap (λ t. after_job (manager_in here.grown) (turn here.i) t) task in (
       omega (arith, c.loop-i-test.true),
-      rw (repeated_more, ← inv.1, ← next) (ended.by_index_2 here.grown.wear),
-      rw (total_more, ← inv.1, ← inv.2, ← next) (ap₂ (λ x y. here.sum + (x + y)) (c.number-first.ensures ∙ begun.by_index here.grown.wear ∙ ap (λ t. job_number_of (manager_in here.grown) (turn here.i) t) task) (c.number-second.ensures ∙ ended.by_index here.grown.wear)),
+      rw (repeated_more, ← inv.1, ← next) (ended.manager_value here.grown.wear),
+      rw (total_more, ← inv.1, ← inv.2, ← next) (ap₂ (λ x y. here.sum + (x + y)) (c.number-first.ensures ∙ begun.answer_value here.grown.wear ∙ ap (λ t. job_number_of (manager_in here.grown) (turn here.i) t) task) (c.number-second.ensures ∙ ended.answer_value here.grown.wear)),
       omega (arith, inv.3, c.number-first.type_inv, c.number-second.type_inv),
       inv.4,
     )

@@ -44,6 +44,4 @@ returns c = let here = c.loop-i in
     let all : c.args.times ≡ here.i = omega arith in
     let begun = ap manager_in c.of-grown.ensures ∙ c.busy-busy.ensures in
     let none : here.sum + c.rest_of-rest.result + c.left_sum.result ≡ here.sum + c.left_sum.result = omega (arith, c.rest_of-rest.ensures) in
-    
-    let both = rw (← begun, ← c.answer_of-answers.ensures, all) (rw (← inv.3, ← inv.4) (none ∙ ap (◌+◌ here.sum) (c.left_sum.ensures.value ∙ ap (λ m. left_total m 8) c.manager.ensures)), (ap (λ b. b.lent.image) inv.3, ap (λ b. b.lent.store) inv.3)) in
-    record { value = both.0; image_after = both.1.0; store_after = both.1.1 }
+    rw (← begun, ← c.answer_of-answers.ensures, all) (record { value = rw (← inv.3, ← inv.4) (none ∙ ap (◌+◌ here.sum) (c.left_sum.ensures.value ∙ ap (λ m. left_total m 8) c.manager.ensures)); image_after = ap (λ b. b.lent.image) inv.3; store_after = ap (λ b. b.lent.store) inv.3 })

@@ -13,7 +13,7 @@ pub loop-i-preserved : goal.loop-i-preserved
 loop-i-preserved c = let here = c.loop-i in
     let inv = here.invariant in
     let called = c.cancel_change-change.ensures in
-    (omega arith, rw (repeated_more, ← inv.1) (called.by_index_2 here.manager.wear), rw (total_more, ← inv.1, ← inv.2) (ap (◌+◌ _) (c.number-number.ensures ∙ called.by_index here.manager.wear)), omega arith)
+    (omega arith, rw (repeated_more, ← inv.1) (called.manager_value here.manager.wear), rw (total_more, ← inv.1, ← inv.2) (ap (◌+◌ _) (c.number-number.ensures ∙ called.answer_value here.manager.wear)), omega arith)
 
 pub returns : goal.returns
 returns c = c.loop-i.invariant.2 ∙ ap₂ cancel_total c.load-loaded.ensures.manager_value (omega arith)

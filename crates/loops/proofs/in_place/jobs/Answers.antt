@@ -21,7 +21,7 @@ loop-i-preserved c = let here = c.loop-i in
     let inv = here.invariant in
     let task = c.task_of-task.ensures in
     let called = c.job_change-change.ensures in
-    (omega arith, rw (repeated_more, ← inv.1) (called.by_index_2 here.manager.wear ∙ ap (λ t. after_job here.manager (turn here.i) t) task), rw (total_more, ← inv.1, ← inv.2) (ap (◌+◌ _) (c.number-number.ensures ∙ called.by_index here.manager.wear ∙ ap (λ t. job_number_of here.manager (turn here.i) t) task)), omega arith)
+    (omega arith, rw (repeated_more, ← inv.1) (called.manager_value here.manager.wear ∙ ap (λ t. after_job here.manager (turn here.i) t) task), rw (total_more, ← inv.1, ← inv.2) (ap (◌+◌ _) (c.number-number.ensures ∙ called.answer_value here.manager.wear ∙ ap (λ t. job_number_of here.manager (turn here.i) t) task)), omega arith)
 
 pub returns : goal.returns
 returns c = c.loop-i.invariant.2 ∙ ap₂ (job_total _ _) c.load-loaded.ensures.manager_value (omega arith)

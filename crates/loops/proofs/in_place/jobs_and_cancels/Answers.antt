@@ -25,10 +25,10 @@ loop-i-preserved c = let here = c.loop-i in
     let task = c.task_of-task.ensures in
     let begun = c.job_change-change.ensures in
     let ended = c.cancel_change-change.ensures in
-    let next = begun.by_index_2 here.manager.wear ∙ ap (λ t. after_job here.manager (turn here.i) t) task in (
+    let next = begun.manager_value here.manager.wear ∙ ap (λ t. after_job here.manager (turn here.i) t) task in (
       omega (arith, c.loop-i-test.true),
-      rw (repeated_more, ← inv.1, ← next) (ended.by_index_2 here.manager.wear),
-      rw (total_more, ← inv.1, ← inv.2, ← next) (ap₂ (λ x y. here.sum + (x + y)) (c.number-first.ensures ∙ begun.by_index here.manager.wear ∙ ap (λ t. job_number_of here.manager (turn here.i) t) task) (c.number-second.ensures ∙ ended.by_index here.manager.wear)),
+      rw (repeated_more, ← inv.1, ← next) (ended.manager_value here.manager.wear),
+      rw (total_more, ← inv.1, ← inv.2, ← next) (ap₂ (λ x y. here.sum + (x + y)) (c.number-first.ensures ∙ begun.answer_value here.manager.wear ∙ ap (λ t. job_number_of here.manager (turn here.i) t) task) (c.number-second.ensures ∙ ended.answer_value here.manager.wear)),
       omega (arith, inv.3, c.number-first.type_inv, c.number-second.type_inv),
     )
 

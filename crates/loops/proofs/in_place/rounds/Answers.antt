@@ -24,8 +24,8 @@ loop-i-preserved c = let here = c.loop-i in
       omega arith,
       omega (arith, inv.1),
       omega (arith, inv.2),
-      rw (rounds_more, ← inv.3) (bench_is _ _ _ _ _ (worn ∙ r.ensures.by_index_2 wear) (r.ensures.by_index_3 wear) (r.ensures.by_index_4 wear)),
-      rw (total_more_rounds, ← inv.3, ← inv.4) (ap (◌+◌ here.sum) (c.number-number.ensures ∙ r.ensures.by_index wear)),
+      rw (rounds_more, ← inv.3) (bench_is _ _ _ _ _ (worn ∙ r.ensures.manager_value wear) (r.ensures.image_after wear) (r.ensures.store_after wear)),
+      rw (total_more_rounds, ← inv.3, ← inv.4) (ap (◌+◌ here.sum) (c.number-number.ensures ∙ r.ensures.answer_value wear)),
       omega arith,
     )
 
@@ -33,6 +33,4 @@ pub returns : goal.returns
 returns c = let here = c.loop-i in
     let inv = here.invariant in
     let all : c.args.times ≡ here.i = omega arith in
-    
-    let both = rw (← c.busy-manager.ensures, ← c.answer_of-answers.ensures, all) (rw (← inv.3, ← inv.4) (ap (◌+◌ here.sum) c.left_sum.ensures.value), (ap (λ b. b.lent.image) inv.3, ap (λ b. b.lent.store) inv.3)) in
-    record { value = both.0; image_after = both.1.0; store_after = both.1.1 }
+    rw (← c.busy-manager.ensures, ← c.answer_of-answers.ensures, all) (record { value = rw (← inv.3, ← inv.4) (ap (◌+◌ here.sum) c.left_sum.ensures.value); image_after = ap (λ b. b.lent.image) inv.3; store_after = ap (λ b. b.lent.store) inv.3 })

@@ -25,8 +25,8 @@ returns-in-Refused c = let a = c.args in
     let k = c.ask-asked.ensures in
     let x = c.cancel_admission-answer in
     let is = x.ensures ∙ ap (λ z. first_no 9 (z.sound ∷ is_known a.self.plan a.area ∷ skip 6 (is_pending z.area.job ∷ []))) k.value in
-    cancel_none a.self.plan a.self.areas a.self.devices a.self.ages a.self.wear a.area x.result is _ c.in
-    let both = -Refused.is in
+    
+    let both = cancel_none a.self.plan a.self.areas a.self.devices a.self.ages a.self.wear a.area x.result is _ c.in-Refused.is in
     record { answer_value = both.0; manager_value = both.1 }
 
 pub returns-in-Accepted : goal.returns-in-Accepted
@@ -37,6 +37,4 @@ returns-in-Accepted c = let a = c.args in
     let r = c.stop-change in
     let f = r.ensures ∙ ap (λ z. stopped_change a.self.plan z a.self.devices a.self.ages) k.value in
     let j = cancel_stopped a.self.plan a.self.areas a.self.devices a.self.ages a.self.wear a.area x.result is c.in-Accepted.is r.result f in
-    
-    let both = rw c.with.ensures (j.0, j.1) in
-    record { answer_value = both.0; manager_value = both.1 }
+    rw c.with.ensures (record { answer_value = j.0; manager_value = j.1 })

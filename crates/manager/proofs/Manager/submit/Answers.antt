@@ -28,8 +28,8 @@ returns-in-Refused c = let a = c.args in
     let k = c.ask-asked.ensures in
     let x = c.idle_admission-answer in
     let is = x.ensures ∙ ap (λ z. first_no 9 (z.sound ∷ is_known a.self.plan a.area ∷ not (is_pending z.area.job) ∷ [])) k.value in
-    job_none a.self.plan a.self.areas a.self.devices a.self.ages a.self.wear a.area a.task x.result is _ c.in
-    let both = -Refused.is in
+    
+    let both = job_none a.self.plan a.self.areas a.self.devices a.self.ages a.self.wear a.area a.task x.result is _ c.in-Refused.is in
     record { answer_value = both.0; manager_value = both.1 }
 
 pub returns-in-Accepted : goal.returns-in-Accepted
@@ -41,6 +41,4 @@ returns-in-Accepted c = let a = c.args in
     let n = r.ensures.answer_value ∙ ap (λ z. first_no 12 (range_questions a.self.plan z.number a.task)) k.value in
     let f = r.ensures.value ∙ ap (λ z. begun_change r.result.answer a.self.plan z (get_or a.self.devices 0 free_device) a.self.ages a.task) k.value in
     let j = job_begun a.self.plan a.self.areas a.self.devices a.self.ages a.self.wear a.area a.task x.result is c.in-Accepted.is r.result (get_or a.self.devices 0 free_device) refl n f in
-    
-    let both = rw c.with.ensures (j.0, j.1) in
-    record { answer_value = both.0; manager_value = both.1 }
+    rw c.with.ensures (record { answer_value = j.0; manager_value = j.1 })

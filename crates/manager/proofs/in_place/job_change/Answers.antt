@@ -26,9 +26,7 @@ returns-in-Refused c = let a = c.args in
     let x = c.idle_admission-answer in
     let is = x.ensures ∙ ap (λ z. first_no 9 (z.sound ∷ is_known a.plan a.area ∷ not (is_pending z.area.job) ∷ [])) k.value in
     let j : (wear : List ℕ) → _ = λ wear. job_none a.plan a.areas a.devices a.ages wear a.area a.task x.result is _ c.in-Refused.is in
-    
-    let both = rw c.none.ensures ((λ wear. (j wear).0), ((λ wear. kept a.plan a.areas a.devices a.ages wear x.result ∙ (j wear).1), (omega arith, omega arith))) in
-    record { by_index = both.0; by_index_2 = both.1.0; area_number_bound = both.1.1 }
+    rw c.none.ensures (record { answer_value = (λ wear. (j wear).0); manager_value = (λ wear. kept a.plan a.areas a.devices a.ages wear x.result ∙ (j wear).1); numbers_bound = (omega arith, omega arith) })
 
 pub returns-in-Accepted : goal.returns-in-Accepted
 returns-in-Accepted c = let a = c.args in
@@ -39,4 +37,4 @@ returns-in-Accepted c = let a = c.args in
     let n = r.ensures.answer_value ∙ ap (λ z. first_no 12 (range_questions a.plan z.number a.task)) k.value in
     let f = r.ensures.value ∙ ap (λ z. begun_change r.result.answer a.plan z (get_or a.devices 0 free_device) a.ages a.task) k.value in
     let j : (wear : List ℕ) → _ = λ wear. job_begun a.plan a.areas a.devices a.ages wear a.area a.task x.result is c.in-Accepted.is r.result (get_or a.devices 0 free_device) refl n f in
-    record { by_index = (λ wear. (j wear).0); by_index_2 = (λ wear. (j wear).1); area_number_bound = (omega (arith, ap (λ z. z.area_number) r.ensures.value, k.number_bound), omega (arith, ap (λ z. z.device_number) r.ensures.value)) }
+    record { answer_value = (λ wear. (j wear).0); manager_value = (λ wear. (j wear).1); numbers_bound = (omega (arith, ap (λ z. z.area_number) r.ensures.value, k.number_bound), omega (arith, ap (λ z. z.device_number) r.ensures.value)) }

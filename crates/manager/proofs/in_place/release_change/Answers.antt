@@ -33,18 +33,10 @@ bounds-devices-number c = let a = c.args in
 pub returns-in-Refused : goal.returns-in-Refused
 returns-in-Refused c = let a = c.args in
     let number : (wear : List ℕ) → _ = λ wear. release_number_lem (manager_of a.plan a.areas a.devices a.ages wear) a.area _ c.is_sound-sound.ensures _ a.address a.length c.release_admission-answer.ensures in
-    
-    let both = rw c.none.ensures (
-      number,
-      (
-        (λ wear. kept a.plan a.areas a.devices a.ages wear c.release_admission-answer.result ∙ release_refused (manager_of a.plan a.areas a.devices a.ages wear) a.area a.address a.length (refused_some _ _ c.in-Refused.is _ (number wear))),
-        (omega arith, omega arith),
-      ),
-    ) in
-    record { by_index = both.0; by_index_2 = both.1.0; area_number_bound = both.1.1 }
+    rw c.none.ensures (record { answer_value = number; manager_value = (λ wear. kept a.plan a.areas a.devices a.ages wear c.release_admission-answer.result ∙ release_refused (manager_of a.plan a.areas a.devices a.ages wear) a.area a.address a.length (refused_some _ _ c.in-Refused.is _ (number wear))); numbers_bound = (omega arith, omega arith) })
 
 pub returns-in-Accepted : goal.returns-in-Accepted
 returns-in-Accepted c = let a = c.args in
     let number : (wear : List ℕ) → _ = λ wear. release_number_lem (manager_of a.plan a.areas a.devices a.ages wear) a.area _ c.is_sound-sound.ensures _ a.address a.length c.release_admission-answer.ensures in
     let accepted : (wear : List ℕ) → _ = λ wear. sym (number wear) ∙ ap admission_number c.in-Accepted.is in
-    let long : length a.devices ≡ 4 = c.well_formed.1.1.0.1.0.1 in record { by_index = number; by_index_2 = (λ wear. release_freed a.plan a.areas a.devices a.ages wear a.area a.address a.length c.range_device-number.result c.release_admission-answer.result c.range_device-number.ensures (accepted wear)); area_number_bound = (omega arith, omega (arith, c.range_device-number.ensures, release_known (manager_of a.plan a.areas a.devices a.ages []) a.area a.address a.length 4 long (accepted []))) }
+    let long : length a.devices ≡ 4 = c.well_formed.1.1.0.1.0.1 in record { answer_value = number; manager_value = (λ wear. release_freed a.plan a.areas a.devices a.ages wear a.area a.address a.length c.range_device-number.result c.release_admission-answer.result c.range_device-number.ensures (accepted wear)); numbers_bound = (omega arith, omega (arith, c.range_device-number.ensures, release_known (manager_of a.plan a.areas a.devices a.ages []) a.area a.address a.length 4 long (accepted []))) }

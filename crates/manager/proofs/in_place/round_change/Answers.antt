@@ -26,7 +26,7 @@ returns-in-Refused c = let a = c.args in
     let m : List ℕ → Manager = manager_of a.plan a.areas a.devices a.ages in
     let lent = memory_of a.image.now a.store.now in
     let x = c.round_admission-asked.ensures in
-    let no = refused_some _ _ c.in-Refused.is _ x.answer_value in record { by_index = (λ wear. x.answer_value); by_index_2 = (λ wear. round_refused (m wear) a.answers lent no _ c.none.ensures); by_index_3 = (λ wear. ap (λ z. z.image) (round_memory_refused (m wear) a.answers lent no)); by_index_4 = (λ wear. ap (λ z. z.store) (round_memory_refused (m wear) a.answers lent no)) }
+    let no = refused_some _ _ c.in-Refused.is _ x.answer_value in record { answer_value = (λ wear. x.answer_value); manager_value = (λ wear. round_refused (m wear) a.answers lent no _ c.none.ensures); image_after = (λ wear. ap (λ z. z.image) (round_memory_refused (m wear) a.answers lent no)); store_after = (λ wear. ap (λ z. z.store) (round_memory_refused (m wear) a.answers lent no)) }
 
 pub returns-in-Accepted : goal.returns-in-Accepted
 unfolding round_number_of
@@ -35,4 +35,4 @@ returns-in-Accepted c = let a = c.args in
     let lent = memory_of a.image.now a.store.now in
     let x = c.round_admission-asked.ensures in
     let yes = sym x.answer_value ∙ ap admission_number c.in-Accepted.is in
-    let r = c.run_round-next in record { by_index = (λ wear. x.answer_value); by_index_2 = (λ wear. round_accepted (m wear) a.answers lent yes r.result.areas r.result.devices (add_worn r.result.worn 4 wear) r.ensures.areas_value r.ensures.devices_value (r.ensures.by_index wear)); by_index_3 = (λ wear. r.ensures.image_after ∙ ap (λ z. z.image) (round_memory_accepted (m wear) a.answers lent yes)); by_index_4 = (λ wear. r.ensures.store_after ∙ ap (λ z. z.store) (round_memory_accepted (m wear) a.answers lent yes)) }
+    let r = c.run_round-next in record { answer_value = (λ wear. x.answer_value); manager_value = (λ wear. round_accepted (m wear) a.answers lent yes r.result.areas r.result.devices (add_worn r.result.worn 4 wear) r.ensures.areas_value r.ensures.devices_value (r.ensures.worn_value wear)); image_after = (λ wear. r.ensures.image_after ∙ ap (λ z. z.image) (round_memory_accepted (m wear) a.answers lent yes)); store_after = (λ wear. r.ensures.store_after ∙ ap (λ z. z.store) (round_memory_accepted (m wear) a.answers lent yes)) }

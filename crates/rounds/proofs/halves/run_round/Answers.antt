@@ -206,4 +206,4 @@ returns c = let s = c in
     let first = h.invariant.12 ∙ ap (λ n. both (take_all p s.args.answers n (lent_to s.args.areas s.args.devices m))) answered in
     let picked : k.e ≡ p.device_count = omega (arith, c.loop-e-test.false, k.invariant.0) in
     let second = k.invariant.3 ∙ ap (λ n. second_half (needs_layout p.areas s.args.ages p.area_count p.devices rules) n (core_in h.areas h.devices)) picked in
-    let closed = closed_all (needs_layout p.areas s.args.ages 0 [] rules) s.args.areas k.areas (core_in k.areas k.devices) l.a l.areas (omega (arith, c.loop-a-test.false, l.invariant.0)) l.invariant.1 in record { areas_value = whole_areas p s.args.areas s.args.devices s.args.ages s.args.answers m h.invariant.1 h.areas h.devices (ap (λ x. x.0) first) h.dues h.invariant.13 rules c.needed_devices-needs.ensures k.areas k.devices second l.areas closed; devices_value = whole_devices p s.args.areas s.args.devices s.args.ages s.args.answers m h.invariant.1 h.areas h.devices (ap (λ x. x.0) first) h.dues h.invariant.13 rules c.needed_devices-needs.ensures k.areas k.devices second k.invariant.2; by_index = (λ wear. ap (λ x. add_worn x 4 wear) (worn.invariant.2 ∙ ap (table 4 (worn_for s.args.areas s.args.devices s.args.dues s.args.answers) no_worn) asked) ∙ wear_all p s.args.areas s.args.devices s.requires.0 s.args.answers m s.args.dues s.requires.3 wear); image_after = ap (λ x. x.1.image) first ∙ ap (λ x. x.image) (whole_memory p s.args.areas s.args.devices s.args.ages s.args.answers m); store_after = ap (λ x. x.1.store) first ∙ ap (λ x. x.store) (whole_memory p s.args.areas s.args.devices s.args.ages s.args.answers m) }
+    let closed = closed_all (needs_layout p.areas s.args.ages 0 [] rules) s.args.areas k.areas (core_in k.areas k.devices) l.a l.areas (omega (arith, c.loop-a-test.false, l.invariant.0)) l.invariant.1 in record { areas_value = whole_areas p s.args.areas s.args.devices s.args.ages s.args.answers m h.invariant.1 h.areas h.devices (ap (λ x. x.0) first) h.dues h.invariant.13 rules c.needed_devices-needs.ensures k.areas k.devices second l.areas closed; devices_value = whole_devices p s.args.areas s.args.devices s.args.ages s.args.answers m h.invariant.1 h.areas h.devices (ap (λ x. x.0) first) h.dues h.invariant.13 rules c.needed_devices-needs.ensures k.areas k.devices second k.invariant.2; worn_value = (λ wear. ap (λ x. add_worn x 4 wear) (worn.invariant.2 ∙ ap (table 4 (worn_for s.args.areas s.args.devices s.args.dues s.args.answers) no_worn) asked) ∙ wear_all p s.args.areas s.args.devices s.requires.0 s.args.answers m s.args.dues s.requires.3 wear); image_after = ap (λ x. x.1.image) first ∙ ap (λ x. x.image) (whole_memory p s.args.areas s.args.devices s.args.ages s.args.answers m); store_after = ap (λ x. x.1.store) first ∙ ap (λ x. x.store) (whole_memory p s.args.areas s.args.devices s.args.ages s.args.answers m) }

@@ -77,7 +77,7 @@ loop-at-preserved-in-Call c = let l = c.loop-at in
     let yes = sym c.is_line.ensures ∙ c.if-not-is_line.false in
     let r = c.make-change.ensures in
     let p = c.print_answer-end.ensures in
-    let d = call_done _ m (memory_of l.image l.store) _ _ c.in-Call.is _ (r.by_index l.wear) (r.by_index_2 l.wear) p.0 p.1 in
+    let d = call_done _ m (memory_of l.image l.store) _ _ c.in-Call.is _ (r.answer_value l.wear) (r.manager_value l.wear) p.0 p.1 in
     let t = lines_turn a.ends (length a.out.now) m l.image l.store l.out l.end (used_to l.at a.input.now) l.invariant.1
     (omega (arith, room, l.invariant.4)) a.input.now l.at e.result e.ensures.0 e.ensures.1 e.ensures.2 yes u _ _ l.image l.store
     c.line_of-line.ensures d _ l.invariant.5 in
@@ -100,7 +100,7 @@ loop-at-preserved-in-Info c = let l = c.loop-at in
     let yes = sym c.is_line.ensures ∙ c.if-not-is_line.false in
     let r = c.info_of-asked.ensures in
     let p = c.print_info-end.ensures in
-    let d = info_done _ m (memory_of l.image l.store) _ c.in-Info.is _ _ (r.by_index l.ages l.wear) (r.by_index_2 l.ages l.wear) p.0 p.1 in
+    let d = info_done _ m (memory_of l.image l.store) _ c.in-Info.is _ _ (r.answer_value l.ages l.wear) (r.info_value l.ages l.wear) p.0 p.1 in
     let t = lines_turn a.ends (length a.out.now) m l.image l.store l.out l.end (used_to l.at a.input.now) l.invariant.1
     (omega (arith, room, l.invariant.4)) a.input.now l.at e.result e.ensures.0 e.ensures.1 e.ensures.2 yes u _ m l.image l.store
     c.line_of-line.ensures d _ l.invariant.5 in
@@ -110,7 +110,7 @@ pub print_round-end-requires : goal.print_round-end-requires
 print_round-end-requires c = let l = c.loop-at in
     let m = manager_of c.args.manager.plan l.areas l.devices l.ages l.wear in
     let r = c.round_change-change.ensures in
-    record { at_in_bounds = omega (arith, c.if-out-end.false); sub_area_count_bound = λ z. round_shows m _ (memory_of l.image l.store) (sym (r.by_index l.wear) ∙ z) _ (r.by_index_2 l.wear) }
+    record { at_in_bounds = omega (arith, c.if-out-end.false); sub_area_count_bound = λ z. round_shows m _ (memory_of l.image l.store) (sym (r.answer_value l.wear) ∙ z) _ (r.manager_value l.wear) }
 
 pub loop-at-smaller : goal.loop-at-smaller
 loop-at-smaller c = omega (arith, c.loop-at-test.true, c.part_end-to.ensures.0)
@@ -127,7 +127,7 @@ loop-at-preserved c = let l = c.loop-at in
     let r = c.round_change-change in
     let worn = ap (manager_of a.manager.plan r.result.areas r.result.devices l.ages) c.add_worn.ensures in
     let p = c.print_round-end.ensures in
-    let d = round_done _ m (memory_of l.image l.store) _ _ _ _ _ (memory_of _ _) c.in-Round.is _ (r.ensures.by_index l.wear) (worn ∙ r.ensures.by_index_2 l.wear) (r.ensures.by_index_3 l.wear) (r.ensures.by_index_4 l.wear) p.0 p.1 in
+    let d = round_done _ m (memory_of l.image l.store) _ _ _ _ _ (memory_of _ _) c.in-Round.is _ (r.ensures.answer_value l.wear) (worn ∙ r.ensures.manager_value l.wear) (r.ensures.image_after l.wear) (r.ensures.store_after l.wear) p.0 p.1 in
     let t = lines_turn a.ends (length a.out.now) m l.image l.store l.out l.end (used_to l.at a.input.now) l.invariant.1
     (omega (arith, room, l.invariant.4)) a.input.now l.at e.result e.ensures.0 e.ensures.1 e.ensures.2 yes u _ _ _ _
     c.line_of-line.ensures d _ l.invariant.5 in

@@ -7,4 +7,4 @@ pub returns : goal.returns
 returns c = let m = c.args.self in
     let r = c.round_change-change in
     let worn = ap (manager_of m.plan r.result.areas r.result.devices m.ages) c.add_worn.ensures in
-    record { answer_value = r.ensures.by_index m.wear; grown_value = (worn ∙ r.ensures.by_index_2 m.wear, refl); image_after = r.ensures.by_index_3 m.wear; store_after = r.ensures.by_index_4 m.wear }
+    record { answer_value = r.ensures.answer_value m.wear; grown_value = (worn ∙ r.ensures.manager_value m.wear, refl); image_after = r.ensures.image_after m.wear; store_after = r.ensures.store_after m.wear }

@@ -4,4 +4,4 @@ use Rattle.loops.proofs.grown.Grown.submit.Goals as goal
 
 pub returns : goal.returns
 returns c = let r = c.job_change-change.ensures in
-    record { answer_value = r.by_index _; grown_value = (r.by_index_2 _, refl) }
+    record { answer_value = r.answer_value _; grown_value = (r.manager_value _, refl) }
