@@ -13,7 +13,7 @@ unfolding repeated total
 loop-i-init c = (omega arith, omega arith, refl, refl, omega arith)
 
 pub segment_found-segment-requires : goal.segment_found-segment-requires
-segment_found-segment-requires c = c.IsPlace-in.ensures.1
+segment_found-segment-requires c = c.place_in-found.ensures.1
 
 pub loop-i-preserved : goal.loop-i-preserved
 loop-i-preserved c = let here = c.loop-i in
@@ -22,7 +22,7 @@ loop-i-preserved c = let here = c.loop-i in
     let task = made.result in
     let records = c.load-loaded.result.manager.plan.sub_areas in
     let called = c.processed_next-processed.ensures in
-    let segment = c.segment_found-segment.ensures ∙ ap (segment_if task.kind (sub_area_of records (here.i % 32)) (task.length - here.processed)) c.IsPlace-in.ensures.0 in
+    let segment = c.segment_found-segment.ensures ∙ ap (segment_if task.kind (sub_area_of records (here.i % 32)) (task.length - here.processed)) c.place_in-found.ensures.0 in
     let cut = called.0 ∙ ap₂ (λ n s. processed_next n here.processed s.length) (sym (ap (λ t. t.length) made.ensures)) segment in (
       omega arith,
       called.1,
