@@ -1,5 +1,6 @@
 // Questions 12 to 15 in code: a range of an area.
 #![tactic(auto)]
+
 ghost use Rattle.std.specs.Prelude.{◌≡◌, true, ◌&&◌, ◌+◌, ◌-◌, ◌≤◌, ◌<◌, leb};
 ghost use Rattle.arith.specs.FirstNo.{first_no};
 ghost use Rattle.arith.specs.Multiples.{multiple};

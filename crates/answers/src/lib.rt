@@ -1,5 +1,6 @@
 // The first half of a round: a device with a running request takes its answer. And what its answer wears.
 #![tactic(auto)]
+
 ghost use Rattle.std.specs.Prelude.{◌≡◌, ◌≤◌};
 ghost use Rattle.rules.specs.Machine.{doing};
 ghost use Rattle.answers.specs.laws.Answers.{Lent, turn_area, turn_state, turn_due, turn_memory};

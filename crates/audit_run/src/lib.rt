@@ -3,6 +3,7 @@
 // What is printed into a buffer, and what is left then, is an equation (`audits::fill`); which bytes a read brings, and whether a write took its bytes, is for the C library to say, whose contracts bound counts alone: each
 // function that reads or writes says at its contract what that leaves open.
 #![tactic(auto)]
+
 ghost use Rattle.std.specs.Prelude.{true, ◌≡◌, ◌≤◌, length};
 ghost use Rattle.audits.specs.Audits.{jobs_in};
 ghost use Rattle.audits.specs.laws.LoadLaws.{Loaded};

@@ -1,5 +1,6 @@
 // The audit of a plan and a list of jobs: the jobs of the lines, and what is known of each.
 #![tactic(auto)]
+
 ghost use Rattle.std.specs.Prelude.{true, false, List, ◌≡◌, ◌+◌, ◌<◌, min, length};
 ghost use Rattle.job_rows.specs.JobRows.{too_large};
 ghost use Rattle.manager.specs.Calls.{job_number_of};

@@ -1,4 +1,5 @@
 #![tactic(auto)]
+
 fn main() {
     bench_run::run();
 }

@@ -4,6 +4,7 @@
 // What is done with bytes once they are in a buffer is an equation: what the lines of the input leave of manager, image and store, and what is kept of a begun line. Which bytes a read
 // brings, and whether a write took its bytes, is for the C library to say, whose contracts bound counts alone: each function that reads or writes says at its contract what that leaves open.
 #![tactic(auto)]
+
 ghost use Rattle.std.specs.Prelude.{true, false, [], ◌≡◌, ◌≤◌, length, take, drop, replicate};
 ghost use Rattle.session.specs.AllLines.{bench_of, after_lines, lines_of, PlayedTo};
 ghost use Rattle.bench_run.specs.Input.{TakenInput, TakenWhole};

@@ -1,5 +1,6 @@
 // The bytes that the bench program starts from, and what it keeps of them between two reads.
 #![tactic(auto)]
+
 ghost use Rattle.std.specs.Prelude.{◌++◌, ◌≡◌, ◌-◌, ◌≤◌, min, length, take, drop, replicate};
 ghost use Rattle.texts.specs.Texts.{question_line};
 

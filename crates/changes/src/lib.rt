@@ -1,5 +1,6 @@
 // What a call on an area changes, and what the calls by value and those in place share: the area is asked for, a job begun, a job cancelled.
 #![tactic(auto)]
+
 ghost use Rattle.std.specs.Prelude.{◌≡◌, ◌≤◌, ◌<◌};
 ghost use Rattle.arith.specs.FirstNo.{first_no};
 ghost use Rattle.memory.specs.Numbers.{admission_number};

@@ -1,5 +1,6 @@
 // The close of a round: each job that was pending before it and still is adds 1 to one count.
 #![tactic(auto)]
+
 ghost use Rattle.std.specs.Prelude.{◌≡◌};
 ghost use Rattle.plan.specs.Questions.{area_of};
 ghost use Rattle.rules.specs.Machine.{wait_behind, wait_on};

@@ -1,5 +1,6 @@
 // What a device does for an area.
 #![tactic(auto)]
+
 ghost use Rattle.std.specs.Prelude.{◌≡◌, ◌≤◌, ◌<◌};
 ghost use Rattle.arith.specs.Bounded.{some};
 ghost use Rattle.rules.specs.Layout.{layout_of};

@@ -1,5 +1,6 @@
 // What a request's answer does to image and store.
 #![tactic(auto)]
+
 ghost use Rattle.std.specs.Prelude.{◌≡◌, ◌+◌, ◌≤◌, length};
 ghost use Rattle.arith.specs.Parts.{put};
 ghost use Rattle.memory.specs.declared.JobType.TheVariants.{Compare};

@@ -1,5 +1,6 @@
 // The auditor's figures of a job: the bounds of demand 3, and the image bytes that it reaches.
 #![tactic(auto)]
+
 ghost use Rattle.std.specs.Prelude.{◌∷◌, ◌≡◌, ◌+◌, ◌*◌, ◌≤◌, ◌<◌};
 ghost use Rattle.plan.specs.Questions.{device_of};
 ghost use Rattle.segment.specs.Segments.{span_most, segment_at, segments_from};

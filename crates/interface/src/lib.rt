@@ -1,5 +1,6 @@
 // What C and Rust see of a manager: structs in C's layout, with the papers' number in the place of each enum.
 #![tactic(auto)]
+
 ghost use Rattle.std.specs.Prelude.{◌≡◌, ◌≤◌, length, take};
 ghost use Rattle.effects.specs.Effects.{memory_of};
 ghost use Rattle.session.specs.Fold.{played_all};

@@ -1,5 +1,6 @@
 // The rows of a job: what the auditor's program says of it, a row at a time.
 #![tactic(auto)]
+
 ghost use Rattle.std.specs.Prelude.{true, false, [], ◌∷◌, ◌≡◌, ℕ, ◌+◌, ◌≤◌, ◌<◌, min, length};
 ghost use Rattle.figures.specs.Figures.{Audited};
 ghost use Rattle.rows.specs.Rows.{rows_text};

@@ -1,5 +1,6 @@
 // A job from its acceptance to its end.
 #![tactic(auto)]
+
 pub mod ranks;
 
 ghost use Rattle.std.specs.Prelude.{◌≡◌, ◌-◌, leb};

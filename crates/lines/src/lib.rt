@@ -1,5 +1,6 @@
 // The lines of a session (document 01, "A printed session"): what a line asks for.
 #![tactic(auto)]
+
 ghost use Rattle.std.specs.Prelude.{◌≡◌, ◌≤◌, ◌<◌, length, ◌∷◌, ◌+◌};
 ghost use Rattle.lines.specs.Fields.{cut_from, fields_from, rest};
 ghost use Rattle.lines.specs.laws.FieldLaws.{word};

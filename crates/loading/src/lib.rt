@@ -1,5 +1,6 @@
 // Loading a plan: the first question answered "no", or the plan.
 #![tactic(auto)]
+
 mod questions;
 
 ghost use Rattle.std.specs.Prelude.{◌≡◌};

@@ -1,6 +1,7 @@
 // Calls made many times over in one loop, for the benchmarks: a manager can't cross to C, so the loops are here.
 // Each returns a sum of what the calls answered, which the benchmark compares with the model's.
 #![tactic(auto)]
+
 ghost use Rattle.std.specs.Prelude.{◌≡◌, ◌≤◌};
 ghost use Rattle.manager.specs.Calls.{job_number_of, after_job};
 ghost use Rattle.manager.specs.Load.{loaded_manager};

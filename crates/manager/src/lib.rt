@@ -1,5 +1,6 @@
 // The manager: its state by value, and its calls.
 #![tactic(auto)]
+
 ghost use Rattle.std.specs.Prelude.{◌≡◌, ℕ, ◌<◌, List};
 ghost use Rattle.memory.specs.Numbers.{job_type_number, admission_number};
 ghost use Rattle.plan.specs.Questions.{load_number};

@@ -1,5 +1,6 @@
 // The types of the field: addresses, job types, statuses, results and the answers to calls.
 #![tactic(auto)]
+
 ghost use Rattle.std.specs.Prelude.{◌≡◌};
 ghost use Rattle.memory.specs.Numbers.{job_type_number, status_number, refusal_number, admission_number};
 

@@ -1,5 +1,6 @@
 // Multiples of a size: where it is a power of two a mask decides, else the remainder.
 #![tactic(auto)]
+
 ghost use Rattle.std.specs.Prelude.{◌≡◌, ◌≤◌};
 ghost use Rattle.arith.specs.Multiples.{multiple};
 ghost use Rattle.multiples.specs.Powers.{is_power_of_two, masked};

@@ -1,5 +1,6 @@
 // The second half of a round: a device that is free, or has an erase that can give way, picks the highest ranked job that needs it.
 #![tactic(auto)]
+
 ghost use Rattle.std.specs.Prelude.{◌&&◌, ◌≡◌, ◌≤◌, ◌<◌, eqb};
 ghost use Rattle.arith.specs.Cases.{pick};
 ghost use Rattle.rules.specs.Machine.{is_pending, displaces};

@@ -1,5 +1,6 @@
 // Questions 3 to 8 of a load, each over all records of a plan.
 #![tactic(auto)]
+
 ghost use Rattle.std.specs.Prelude.{◌≡◌, ℕ, ◌+◌, ◌≤◌, ◌<◌, leb};
 ghost use Rattle.arith.specs.Bounded.{every, every_pair};
 ghost use Rattle.plan.specs.Questions.{area_of, sub_area_of, devices_join, window_end, windows_apart, windows_fit, all_sizes_fit, is_placed, size_of, never_falling, has_sub_area, size_in, area_size, space_fits, sub_areas_apart, all_apart, all_placed, spaces_fit};

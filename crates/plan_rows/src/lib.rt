@@ -1,5 +1,6 @@
 // The rows of a plan: what the auditor's program says of it.
 #![tactic(auto)]
+
 ghost use Rattle.std.specs.Prelude.{false, ◌≡◌, ◌+◌, ◌-◌, ◌≤◌, ◌<◌, length};
 ghost use Rattle.plan.specs.WellFormed.{WellFormed};
 ghost use Rattle.rows.specs.Rows.{rows_text};

@@ -1,5 +1,6 @@
 // What the accepted queries of an area's job and memory give.
 #![tactic(auto)]
+
 ghost use Rattle.std.specs.Prelude.{◌≡◌, get_or, ◌≤◌, ◌<◌};
 ghost use Rattle.plan.specs.Questions.{size_of};
 ghost use Rattle.rules.specs.Layout.{layout_of};

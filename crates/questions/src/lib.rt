@@ -1,5 +1,6 @@
 // Questions 9 to 19 of the calls, in their order.
 #![tactic(auto)]
+
 ghost use Rattle.std.specs.Prelude.{◌∷◌, [], ◌≡◌, true, not, ◌≤◌, ltb};
 ghost use Rattle.arith.specs.Cases.{pick};
 ghost use Rattle.arith.specs.FirstNo.{first_no};

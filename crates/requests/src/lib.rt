@@ -1,5 +1,6 @@
 // A running request takes its device's answer: what it does to image and store, to the job and to the device.
 #![tactic(auto)]
+
 ghost use Rattle.std.specs.Prelude.{◌≡◌, ◌+◌, ◌≤◌, leb, length};
 ghost use Rattle.rules.specs.Memory.{verdict_of, answered_memory};
 ghost use Rattle.effects.specs.Effects.{verdict, lent_end, memory_of};

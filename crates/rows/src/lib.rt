@@ -1,5 +1,6 @@
 // The rows that the auditor's program prints: a form and its numbers, written behind what stands in a lent buffer.
 #![tactic(auto)]
+
 ghost use Rattle.std.specs.Prelude.{◌≡◌, ◌+◌, ◌*◌, ◌≤◌, ◌<◌, length, get_or};
 ghost use Rattle.texts.specs.Appended.{Appended};
 ghost use Rattle.rows.specs.Forms.{filled};

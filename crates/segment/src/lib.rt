@@ -1,5 +1,6 @@
 // Segmentation: where a job's bytes lie, and how a job is cut into driver requests.
 #![tactic(auto)]
+
 ghost use Rattle.std.specs.Prelude.{◌≡◌, ◌+◌, ◌-◌, ◌≤◌, ◌<◌, min, length};
 ghost use Rattle.plan.specs.Questions.{size_of};
 ghost use Rattle.segment.specs.Mapping.{find, located, mapped};

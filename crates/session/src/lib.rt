@@ -1,5 +1,6 @@
 // The bench's session (document 01, "A printed session"): a plan and the lines that follow it.
 #![tactic(auto)]
+
 ghost use Rattle.std.specs.Prelude.{◌≡◌, ◌≤◌, length};
 ghost use Rattle.manager.specs.Load.{loaded_manager};
 ghost use Rattle.effects.specs.Effects.{memory_of};

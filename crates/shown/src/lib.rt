@@ -1,5 +1,6 @@
 // What a round shows of its devices (document 01, "A printed session").
 #![tactic(auto)]
+
 ghost use Rattle.std.specs.Prelude.{◌≡◌, ◌+◌, ◌≤◌, length};
 ghost use Rattle.devices.specs.Arrays.{job_in, core_in};
 ghost use Rattle.plan.specs.Questions.{area_of};

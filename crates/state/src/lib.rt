@@ -1,5 +1,6 @@
 // What moves in a manager: each area's latest job with its waits, and what each device does.
 #![tactic(auto)]
+
 ghost use Rattle.std.specs.Prelude.{◌≡◌};
 ghost use Rattle.state.specs.Fresh.{no_job, fresh_area, free_device};
 

@@ -2,6 +2,7 @@
 // what a call left over is read or written by the next. The C library decides what a read brings and how much a write takes, and its contracts bound counts alone: so the bytes of a buffer that was read
 // into are left open, those behind the count too, and which of the answers comes.
 #![tactic(auto)]
+
 ghost use Rattle.std.specs.Prelude.{◌≤◌, length};
 ghost use Rattle.streams.specs.Counts.{chunk_within, contents_within};
 

@@ -1,5 +1,6 @@
 // What a session prints (document 01, "A printed session"), written behind what stands in a lent buffer.
 #![tactic(auto)]
+
 ghost use Rattle.std.specs.Prelude.{◌≡◌, [], ◌∷◌, ◌+◌, ◌/◌, ◌%◌, ◌^◌, ◌≤◌, ◌<◌, length};
 ghost use Rattle.texts.specs.Appended.{Appended};
 ghost use Rattle.texts.specs.Texts.{behind, digit_count, decimal, number_line, question_line, info_line, free_text, locked_text, request_text};

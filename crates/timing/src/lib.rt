@@ -1,5 +1,6 @@
 // What the benchmarks link: the loops of crate `loops`, for C and Rust. They are exported from a crate of their own because a library proves its crate anew.
 #![tactic(auto)]
+
 ghost use Rattle.std.specs.Prelude.{◌≡◌};
 ghost use Rattle.loops.specs.Repeated.{task_of, cancel_total, job_total, pair_total, busy_manager, info_total};
 ghost use Rattle.loops.specs.Cutting.{multiple_count, cut_total, placed_total};

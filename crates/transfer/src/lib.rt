@@ -1,5 +1,6 @@
 // What drivers do with parts of lent memory: the chip image and the job store.
 #![tactic(auto)]
+
 ghost use Rattle.std.specs.Prelude.{◌≡◌, ◌+◌, ◌≤◌, min, eqb, length, get_or, replicate};
 ghost use Rattle.std.specs.Int.Bits.{bit_and};
 ghost use Rattle.arith.specs.Bounded.{every};

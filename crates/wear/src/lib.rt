@@ -1,5 +1,6 @@
 // Wear in numbers: the sectors of an erase, a sum of them that sticks, and its charge.
 #![tactic(auto)]
+
 ghost use Rattle.std.specs.Prelude.{◌≡◌, ◌≤◌};
 ghost use Rattle.wear.specs.Wear.{sectors_in, worn_to, no_worn, add_worn, rounded_up, charge_of};
 

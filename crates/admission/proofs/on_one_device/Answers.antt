@@ -12,7 +12,8 @@ use borrow.Author.Rules.{rules}
 use Rattle.admission.proofs.on_one_device.Goals as goal
 
 pub loop-x-init : goal.loop-x-init
-loop-x-init c = let a = c.args in
+loop-x-init c =
+    let a = c.args in
     let t = c.lock_task-task.result in
     let e = c.lock_task-task.ensures in
     let lock : t.kind ≡ Lock = ap (λ (k : Task). k.kind) e in
@@ -24,7 +25,8 @@ loop-x-init c = let a = c.args in
     (omega (arith, l, first.1), refl)
 
 pub returns-then-next-device : goal.returns-then-next-device
-returns-then-next-device c = let a = c.args in
+returns-then-next-device c =
+    let a = c.args in
     let t = c.lock_task-task.result in
     let e = c.lock_task-task.ensures in
     let lock : t.kind ≡ Lock = ap (λ (k : Task). k.kind) e in
@@ -38,7 +40,8 @@ returns-then-next-device c = let a = c.args in
     one_device_no a.plan a.area t lock inside _ _ e (omega (arith, more, c.loop-x.invariant.1, k))
 
 pub overflow_add-x : goal.overflow_add-x
-overflow_add-x c = let a = c.args in
+overflow_add-x c =
+    let a = c.args in
     let t = c.lock_task-task.result in
     let e = c.lock_task-task.ensures in
     let lock : t.kind ≡ Lock = ap (λ (k : Task). k.kind) e in
@@ -50,7 +53,8 @@ overflow_add-x c = let a = c.args in
     omega (arith, l, part.1)
 
 pub loop-x-smaller : goal.loop-x-smaller
-loop-x-smaller c = let a = c.args in
+loop-x-smaller c =
+    let a = c.args in
     let t = c.lock_task-task.result in
     let e = c.lock_task-task.ensures in
     let lock : t.kind ≡ Lock = ap (λ (k : Task). k.kind) e in
@@ -62,7 +66,8 @@ loop-x-smaller c = let a = c.args in
     omega (arith, l, part.0, c.loop-x-test.true)
 
 pub loop-x-preserved : goal.loop-x-preserved
-loop-x-preserved c = let a = c.args in
+loop-x-preserved c =
+    let a = c.args in
     let t = c.lock_task-task.result in
     let e = c.lock_task-task.ensures in
     let lock : t.kind ≡ Lock = ap (λ (k : Task). k.kind) e in
@@ -76,7 +81,8 @@ loop-x-preserved c = let a = c.args in
     (omega (arith, l, part.1), ap (λ (k : ℕ). further_spans a.plan a.area t c.segment_at-first.result.device (x + k)) l ∙ sym same ∙ c.loop-x.invariant.1)
 
 pub returns : goal.returns
-returns c = let a = c.args in
+returns c =
+    let a = c.args in
     let t = c.lock_task-task.result in
     let e = c.lock_task-task.ensures in
     let lock : t.kind ≡ Lock = ap (λ (k : Task). k.kind) e in

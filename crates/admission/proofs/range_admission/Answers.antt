@@ -9,15 +9,16 @@ use borrow.Author.Rules.{rules}
 use Rattle.admission.proofs.range_admission.Goals as goal
 
 pub returns-then-not-is_found : goal.returns-then-not-is_found
-returns-then-not-is_found c = let p = c.args.plan in
+returns-then-not-is_found c =
+    let p = c.args.plan in
     let a = c.args.area in
     let t = c.args.task in
-    
     let both = refuses _ _ c.refused.ensures _ (range_outside p a t (last_none p a t.address t.length _ c.last_byte-last.ensures (sym c.is_found.ensures ∙ c.if-not-is_found.true))) _ in
     record { answer_value = both.0; retries_value = both.1 }
 
 pub on_one_device-requires : goal.on_one_device-requires
-on_one_device-requires c = let p = c.args.plan in
+on_one_device-requires c =
+    let p = c.args.plan in
     let a = c.args.area in
     let t = c.args.task in
     let found = sym c.is_found.ensures ∙ c.if-not-is_found.false in
@@ -25,29 +26,30 @@ on_one_device-requires c = let p = c.args.plan in
     (c.requires.0, c.requires.1, here.0)
 
 pub returns-then-not-on_one_device : goal.returns-then-not-on_one_device
-returns-then-not-on_one_device c = let p = c.args.plan in
+returns-then-not-on_one_device c =
+    let p = c.args.plan in
     let a = c.args.area in
     let t = c.args.task in
     let found = sym c.is_found.ensures ∙ c.if-not-is_found.false in
     let here = last_found p a t.address t.length _ c.last_byte-last.ensures found in
     let lock = sym c.is_lock.ensures ∙ c.if-is_lock.true in
-    
     let both = refuses _ _ c.refused-then-not-on_one_device.ensures _ (range_split p a t here.0 lock (sym c.on_one_device.ensures ∙ c.if-not-on_one_device.true)) _ in
     record { answer_value = both.0; retries_value = both.1 }
 
 pub returns-then-is_lock : goal.returns-then-is_lock
-returns-then-is_lock c = let p = c.args.plan in
+returns-then-is_lock c =
+    let p = c.args.plan in
     let a = c.args.area in
     let t = c.args.task in
     let found = sym c.is_found.ensures ∙ c.if-not-is_found.false in
     let here = last_found p a t.address t.length _ c.last_byte-last.ensures found in
     let lock = sym c.is_lock.ensures ∙ c.if-is_lock.true in
-    
     let both = accepts _ _ c.accepted.ensures _ (range_locks p a t here.0 lock (sym c.on_one_device.ensures ∙ c.if-not-on_one_device.false)) _ (lock_first p a t lock) in
     record { answer_value = both.0; retries_value = both.1 }
 
 pub first_byte-first-requires : goal.first_byte-first-requires
-first_byte-first-requires c = let p = c.args.plan in
+first_byte-first-requires c =
+    let p = c.args.plan in
     let a = c.args.area in
     let t = c.args.task in
     let found = sym c.is_found.ensures ∙ c.if-not-is_found.false in
@@ -55,21 +57,24 @@ first_byte-first-requires c = let p = c.args.plan in
     (c.requires.0, c.requires.1, inside_some p a t.address t.length here.0, here.1)
 
 pub offset_bounds-plan-i : goal.offset_bounds-plan-i
-offset_bounds-plan-i c = let p = c.args.plan in
+offset_bounds-plan-i c =
+    let p = c.args.plan in
     let a = c.args.area in
     let t = c.args.task in
     let few = mapped_index p a t.address.0 c.requires.0 _ c.first_byte-first.ensures in
     omega (arith, few, c.index_of-i.ensures)
 
 pub bounds-plan-i : goal.bounds-plan-i
-bounds-plan-i c = let p = c.args.plan in
+bounds-plan-i c =
+    let p = c.args.plan in
     let a = c.args.area in
     let t = c.args.task in
     let few = mapped_index p a t.address.0 c.requires.0 _ c.first_byte-first.ensures in
     omega (arith, few, c.index_of-i.ensures)
 
 pub offset_bounds-plan-j : goal.offset_bounds-plan-j
-offset_bounds-plan-j c = let p = c.args.plan in
+offset_bounds-plan-j c =
+    let p = c.args.plan in
     let a = c.args.area in
     let t = c.args.task in
     let found = sym c.is_found.ensures ∙ c.if-not-is_found.false in
@@ -78,7 +83,8 @@ offset_bounds-plan-j c = let p = c.args.plan in
     omega (arith, few, c.index_of-j.ensures)
 
 pub bounds-plan-j : goal.bounds-plan-j
-bounds-plan-j c = let p = c.args.plan in
+bounds-plan-j c =
+    let p = c.args.plan in
     let a = c.args.area in
     let t = c.args.task in
     let found = sym c.is_found.ensures ∙ c.if-not-is_found.false in
@@ -87,7 +93,8 @@ bounds-plan-j c = let p = c.args.plan in
     omega (arith, few, c.index_of-j.ensures)
 
 pub is_aligned-requires : goal.is_aligned-requires
-is_aligned-requires c = let p = c.args.plan in
+is_aligned-requires c =
+    let p = c.args.plan in
     let a = c.args.area in
     let t = c.args.task in
     let found = sym c.is_found.ensures ∙ c.if-not-is_found.false in
@@ -96,27 +103,27 @@ is_aligned-requires c = let p = c.args.plan in
     omega (arith, few)
 
 pub returns-then-not-is_aligned : goal.returns-then-not-is_aligned
-returns-then-not-is_aligned c = let p = c.args.plan in
+returns-then-not-is_aligned c =
+    let p = c.args.plan in
     let a = c.args.area in
     let t = c.args.task in
     let found = sym c.is_found.ensures ∙ c.if-not-is_found.false in
     let here = last_found p a t.address t.length _ c.last_byte-last.ensures found in
     let job = sym c.is_lock.ensures ∙ c.if-is_lock.false in
     let aligned = sym (aligned_ends p a t _ c.first_byte-first.ensures _ found here _ _ c.index_of-i.ensures c.index_of-j.ensures _ c.is_aligned.ensures) in
-    
     let both = refuses _ _ c.refused-then-not-is_aligned.ensures _ (range_unaligned p a t here.0 job (aligned ∙ c.if-not-is_aligned.true)) _ in
     record { answer_value = both.0; retries_value = both.1 }
 
 pub returns-then-not-fits_window : goal.returns-then-not-fits_window
 unfolding fits_window
-returns-then-not-fits_window c = let p = c.args.plan in
+returns-then-not-fits_window c =
+    let p = c.args.plan in
     let a = c.args.area in
     let t = c.args.task in
     let found = sym c.is_found.ensures ∙ c.if-not-is_found.false in
     let here = last_found p a t.address t.length _ c.last_byte-last.ensures found in
     let job = sym c.is_lock.ensures ∙ c.if-is_lock.false in
     let aligned = sym (aligned_ends p a t _ c.first_byte-first.ensures _ found here _ _ c.index_of-i.ensures c.index_of-j.ensures _ c.is_aligned.ensures) in
-    
     let both = refuses _ _ c.refused-then-not-fits_window.ensures _ (range_long p a t here.0 job (aligned ∙ c.if-not-is_aligned.false) (sym c.fits_window.ensures ∙ c.if-not-fits_window.true)) _ in
     record { answer_value = both.0; retries_value = both.1 }
 
@@ -125,14 +132,14 @@ segment_found-segment-requires c = rw c.index_of-i.ensures (mapped_inside c.args
 
 pub returns : goal.returns
 unfolding fits_window
-returns c = let p = c.args.plan in
+returns c =
+    let p = c.args.plan in
     let a = c.args.area in
     let t = c.args.task in
     let found = sym c.is_found.ensures ∙ c.if-not-is_found.false in
     let here = last_found p a t.address t.length _ c.last_byte-last.ensures found in
     let job = sym c.is_lock.ensures ∙ c.if-is_lock.false in
     let aligned = sym (aligned_ends p a t _ c.first_byte-first.ensures _ found here _ _ c.index_of-i.ensures c.index_of-j.ensures _ c.is_aligned.ensures) in
-    
     let both = accepts _ _ c.accepted-2.ensures _ (range_fits p a t here.0 job (aligned ∙ c.if-not-is_aligned.false) (sym c.fits_window.ensures ∙ c.if-not-fits_window.false)) _
     (first_retries p a t _ c.first_byte-first.ensures _ c.index_of-i.ensures _ c.segment_found-segment.ensures) in
     record { answer_value = both.0; retries_value = both.1 }

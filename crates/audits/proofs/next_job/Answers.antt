@@ -7,7 +7,8 @@ use borrow.Author.Rules.{rules}
 use Rattle.audits.proofs.next_job.Goals as goal
 
 pub returns : goal.returns
-returns c = let a = c.args in
+returns c =
+    let a = c.args in
     let to = c.part_end-to.result in
     let e = c.part_end-to.ensures in
     record {

@@ -13,7 +13,8 @@ pub loop-a-init : goal.loop-a-init
 loop-a-init c = (omega arith, refl, refl, λ i h. absurd (omega arith))
 
 pub loop-a-preserved : goal.loop-a-preserved
-loop-a-preserved c = let a = c.args in
+loop-a-preserved c =
+    let a = c.args in
     let l = c.loop-a in
     let js = jobs_in a.manager.plan.device_count (lines_of true a.input.now) in (
       omega arith,

@@ -10,11 +10,13 @@ use Rattle.session.specs.laws.AllLinesLaws.{played_none}
 use Rattle.bench_run.proofs.answer_lines.Goals as goal
 
 pub loop-at-init : goal.loop-at-init
-loop-at-init c = let a = c.args in
+loop-at-init c =
+    let a = c.args in
     (omega arith, refl, refl, refl, played_none a.ends a.input.now (bench_of a.manager a.image.now a.store.now))
 
 pub returns-then-used-lt1 : goal.returns-then-used-lt1
-returns-then-used-lt1 c = let a = c.args in
+returns-then-used-lt1 c =
+    let a = c.args in
     let l = c.loop-at in
     let p = c.play_lines-progress.ensures in
     let input = a.input.now in
@@ -29,7 +31,8 @@ pub overflow_add-at : goal.overflow_add-at
 overflow_add-at c = omega (arith, c.play_lines-progress.ensures.written_in_bounds, c.well_formed.1.0)
 
 pub returns-then-not-print : goal.returns-then-not-print
-returns-then-not-print c = let a = c.args in
+returns-then-not-print c =
+    let a = c.args in
     let l = c.loop-at in
     let p = c.play_lines-progress.ensures in
     let input = a.input.now in
@@ -38,7 +41,8 @@ returns-then-not-print c = let a = c.args in
     (turn_played a.ends input _ l.out first l.next l.image l.store l.at _ rest p.0 (omega arith) l.invariant.4, (λ h z. absurd (omega (arith, c.if-used-lt1.false)), λ h e. absurd (false≢true e)))
 
 pub loop-at-preserved : goal.loop-at-preserved
-loop-at-preserved c = let a = c.args in
+loop-at-preserved c =
+    let a = c.args in
     let l = c.loop-at in
     let p = c.play_lines-progress.ensures in
     let input = a.input.now in
@@ -47,7 +51,8 @@ loop-at-preserved c = let a = c.args in
     (search rules, search rules, search rules, search rules, turn_played a.ends input _ l.out first l.next l.image l.store l.at _ rest p.0 (omega arith) l.invariant.4)
 
 pub returns : goal.returns
-returns c = let a = c.args in
+returns c =
+    let a = c.args in
     let l = c.loop-at in
     let none = end_none a.ends a.input.now l.at (omega arith) in
     (l.invariant.4, (λ h z. none_at_all a.ends a.input.now l.at z none, λ h _. none))

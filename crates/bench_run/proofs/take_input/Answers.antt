@@ -6,12 +6,14 @@ use Rattle.bench_run.specs.laws.TurnLaws.{front_is, taken_input, taken_whole}
 use Rattle.bench_run.proofs.take_input.Goals as goal
 
 pub keep-kept-requires : goal.keep-kept-requires
-keep-kept-requires c = let a = c.args in
+keep-kept-requires c =
+    let a = c.args in
     let q = c.answer_lines-answered.ensures in
     (omega (arith, q.0.few, ap length (front_is a.input.now a.filled), length-take a.filled a.input.now), omega arith)
 
 pub returns : goal.returns
-returns c = let a = c.args in
+returns c =
+    let a = c.args in
     let q = c.answer_lines-answered.ensures in
     let k = c.keep-kept.ensures in
     let input = a.input.now in

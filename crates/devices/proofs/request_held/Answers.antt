@@ -4,5 +4,6 @@ use borrow.Author.Rules.{rules}
 use Rattle.devices.proofs.request_held.Goals as goal
 
 pub returns : goal.returns
-returns c = let a = c.args in
+returns c =
+    let a = c.args in
     c.holds.ensures ∙ area_held a.plan a.job a.devices a.area _ c.segment_at-segment.ensures _ c.device_on-device.ensures

@@ -11,6 +11,7 @@ pub same_part-requires : goal.same_part-requires
 same_part-requires c = omega (arith, c.window_part-part.ensures.1)
 
 pub returns : goal.returns
-returns c = let a = c.args in
+returns c =
+    let a = c.args in
     let w = c.window_part-part.ensures in
     c.same_part.ensures ∙ every_window a.store.now _ a.window a.n w.0 w.1 (λ i b. eqb (get_or a.image.now (a.at + i) 0) b)

@@ -9,7 +9,8 @@ pub returns-then-finish : goal.returns-then-finish
 returns-then-finish c = record { result_value = simp (c.if-finish.true, ← c.finish.ensures.value, ← c.finish.ensures.image_after, ← c.finish.ensures.store_after, c.in-Done.is); image_after = simp (c.if-finish.true, ← c.finish.ensures.value, ← c.finish.ensures.image_after, ← c.finish.ensures.store_after, c.in-Done.is); store_after = simp (c.if-finish.true, ← c.finish.ensures.value, ← c.finish.ensures.image_after, ← c.finish.ensures.store_after, c.in-Done.is) }
 
 pub act_on_first-requires : goal.act_on_first-requires
-act_on_first-requires c = let e = c.least-acted.ensures in
+act_on_first-requires c =
+    let e = c.least-acted.ensures in
     let l : c.least-acted.result ≤ c.args.n = omega (arith, e) in
     (omega (arith, c.requires.0, l), le_trans (lent_less c.args.kind c.args.window c.least-acted.result c.args.n l) c.requires.1)
 

@@ -13,7 +13,8 @@ pub and_part-requires : goal.and_part-requires
 and_part-requires c = omega (arith, c.window_part-part.ensures.1)
 
 pub returns-then-clears : goal.returns-then-clears
-returns-then-clears c = let a = c.args in
+returns-then-clears c =
+    let a = c.args in
     let w = c.window_part-part.ensures in
     rw c.if-clears.true
     (c.and_part.ensures ∙ ap (λ x. put a.at x a.image.now) (listed_window a.store.now _ a.window a.n w.0 w.1 (λ i b. bit_and (get_or a.image.now (a.at + i) 0) b)))
@@ -22,7 +23,8 @@ pub write_part-requires : goal.write_part-requires
 write_part-requires c = omega (arith, c.window_part-part.ensures.1)
 
 pub returns : goal.returns
-returns c = let a = c.args in
+returns c =
+    let a = c.args in
     let w = c.window_part-part.ensures in
     rw c.if-clears.false
     (c.write_part.ensures ∙ ap (λ x. put a.at x a.image.now) (w.0 ∙ sym (part_listed 0 a.window a.n a.store.now c.requires.1)))

@@ -24,7 +24,8 @@ pub loop-x-smaller : goal.loop-x-smaller
 loop-x-smaller c = let a = c.args in let l = c.loop-x in omega (arith, c.behind-x.ensures, c.loop-x-test.true, segment_some a.plan a.area a.task c.requires l.x l.invariant.1 c.loop-x-test.true c.segment_at-segment.result c.segment_at-segment.ensures)
 
 pub loop-x-preserved : goal.loop-x-preserved
-loop-x-preserved c = let a = c.args in
+loop-x-preserved c =
+    let a = c.args in
     let l = c.loop-x in
     let s = c.segment_at-segment.result in
     let is = c.segment_at-segment.ensures in

@@ -4,6 +4,7 @@ use borrow.Author.Rules.{rules}
 use Rattle.interface.proofs.luvdrog_load.Goals as goal
 
 pub returns : goal.returns
-returns c = let l = c.load-loaded.ensures in
+returns c =
+    let l = c.load-loaded.ensures in
     rw (c.device_views.ensures, c.area_views.ensures)
     (view_is _ _ c.load-loaded.result.manager (c.number.ensures ∙ l.answer_value) l.manager_value)

@@ -24,7 +24,8 @@ pub loop-end-smaller : goal.loop-end-smaller
 loop-end-smaller c = let a = c.args in let l = c.loop-end in one_less a.plan a.area a.task a.facts l.next c.job_step-step.result c.job_step-step.ensures
 
 pub loop-end-preserved : goal.loop-end-preserved
-loop-end-preserved c = let a = c.args in
+loop-end-preserved c =
+    let a = c.args in
     let l = c.loop-end in
     let d = c.job_step-step.ensures in
     let p = c.print_row-end.ensures in

@@ -24,7 +24,8 @@ pub returns-then-value-gt4294967295 : goal.returns-then-value-gt4294967295
 returns-then-value-gt4294967295 c = sym (number_over c.args.text.now (c.loop-i.i + 1) (omega arith) (omega (arith, value_more c.args.text.now c.loop-i.i)))
 
 pub loop-i-preserved : goal.loop-i-preserved
-loop-i-preserved c = let text = c.args.text.now in
+loop-i-preserved c =
+    let text = c.args.text.now in
     let i = c.loop-i.i in
     let more = value_more text i in
     (omega arith, every_more (digit_at text) i c.loop-i.invariant.1 (digit_at_lem text i (omega arith) (omega arith)), omega arith, omega arith)

@@ -10,7 +10,8 @@ unfolding repeated total
 loop-i-init c = (omega arith, refl, omega arith)
 
 pub loop-i-preserved : goal.loop-i-preserved
-loop-i-preserved c = let here = c.loop-i in
+loop-i-preserved c =
+    let here = c.loop-i in
     let asked = c.job_info-asked.ensures in (
       omega arith,
       rw (total_more, repeated_query, ← here.invariant.1) (ap (λ info. here.sum + info.task.length) asked.info_value),

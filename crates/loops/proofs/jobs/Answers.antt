@@ -10,7 +10,8 @@ unfolding repeated total
 loop-i-init c = (omega arith, refl, refl, omega arith)
 
 pub loop-i-preserved : goal.loop-i-preserved
-loop-i-preserved c = let inv = c.loop-i.invariant in
+loop-i-preserved c =
+    let inv = c.loop-i.invariant in
     let called = c.submit-answered.ensures in
     let told = c.number-number.ensures in (
       omega arith,

@@ -10,7 +10,8 @@ unfolding repeated total
 loop-i-init c = (omega arith, refl, refl, omega arith)
 
 pub loop-i-preserved : goal.loop-i-preserved
-loop-i-preserved c = let here = c.loop-i in
+loop-i-preserved c =
+    let here = c.loop-i in
     let inv = here.invariant in
     let begun = c.submit-begun.ensures in
     let ended = c.cancel-ended.ensures in (

@@ -12,7 +12,8 @@ unfolding rounds round_total
 loop-i-init c = (omega arith, refl, refl, refl, refl, omega arith)
 
 pub loop-i-preserved : goal.loop-i-preserved
-loop-i-preserved c = let here = c.loop-i in
+loop-i-preserved c =
+    let here = c.loop-i in
     let inv = here.invariant in
     let done = c.round-answered.ensures in
     let told = c.number-number.ensures in (
@@ -25,7 +26,8 @@ loop-i-preserved c = let here = c.loop-i in
     )
 
 pub returns : goal.returns
-returns c = let here = c.loop-i in
+returns c =
+    let here = c.loop-i in
     let inv = here.invariant in
     let all : c.args.times ≡ here.i = omega arith in
     rw (← c.busy-manager.ensures, ← c.answer_of-answers.ensures, all) (record { value = rw (← inv.3, ← inv.4) (ap (◌+◌ here.sum) c.left_sum.ensures.value); image_after = ap (λ b. b.lent.image) inv.3; store_after = ap (λ b. b.lent.store) inv.3 })

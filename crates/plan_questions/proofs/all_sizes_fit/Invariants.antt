@@ -1,10 +1,7 @@
 use Prim.Native.Nat.{◌-◌, ◌≤◌}
 use mathlib.Core.Bool.{true}
-use mathlib.Core.Path.{◌≡◌, refl, sym, ap, ◌∙◌}
-use native.Mathlib.Omega.{arith}
-use borrow.Author.Rules.{rules}
-use borrow.Author.Tests.{not-true, not-false}
-use Rattle.arith.specs.Bounded.{every, every_fails, every_more}
+use mathlib.Core.Path.{◌≡◌}
+use Rattle.arith.specs.Bounded.{every}
 use Rattle.plan.specs.Questions.{sub_area_of, sizes_fit}
 use Rattle.plan_questions.proofs.all_sizes_fit.Given as goal
 

@@ -1,10 +1,6 @@
-use Prim.Native.Nat.{ℕ, ◌-◌, ◌*◌, ◌≤◌}
-use mathlib.Core.Path.{◌≡◌, refl, ap, ◌∙◌}
-use native.Mathlib.Omega.{arith}
-use borrow.Author.Rules.{rules}
-use Rattle.arith.specs.Bounded.{sum}
-use Rattle.plan.specs.Questions.{sub_area_of, area_size}
-use Rattle.plan.proofs.laws.SizeLaws.{size_in_few, size_more}
+use Prim.Native.Nat.{◌-◌, ◌*◌, ◌≤◌}
+use mathlib.Core.Path.{◌≡◌}
+use Rattle.plan.specs.Questions.{area_size}
 use Rattle.plan_questions.proofs.area_size.Given as goal
 
 abbrev pub invariant-loop-i : goal.invariant-loop-i

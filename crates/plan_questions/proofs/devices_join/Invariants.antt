@@ -1,12 +1,8 @@
-use Prim.Native.Nat.{ℕ, ◌-◌, ◌*◌, ◌≤◌}
-use mathlib.Core.Bool.{true, false}
-use mathlib.Core.Path.{◌≡◌, refl, sym, ap, ◌∙◌}
-use native.Mathlib.Omega.{arith}
-use borrow.Author.Rules.{rules}
-use borrow.Author.Tests.{not-true, not-false}
-use Rattle.arith.specs.Bounded.{every, every_fails, every_more}
-use Rattle.plan.specs.Questions.{device_of, device_due, device_joins, length_sum, devices_join}
-use Rattle.plan.proofs.laws.SizeLaws.{due_more, length_more}
+use Prim.Native.Nat.{◌-◌, ◌*◌, ◌≤◌}
+use mathlib.Core.Bool.{true}
+use mathlib.Core.Path.{◌≡◌}
+use Rattle.arith.specs.Bounded.{every}
+use Rattle.plan.specs.Questions.{device_of, device_due, device_joins, length_sum}
 use Rattle.plan_questions.proofs.devices_join.Given as goal
 
 abbrev pub invariant-loop-i : goal.invariant-loop-i

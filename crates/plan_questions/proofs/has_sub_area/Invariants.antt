@@ -1,10 +1,7 @@
 use Prim.Native.Nat.{◌-◌, ◌≤◌}
-use mathlib.Core.Path.{◌≡◌, refl, sym, ap, ◌∙◌}
-use native.Mathlib.Omega.{arith}
-use borrow.Author.Rules.{rules}
+use mathlib.Core.Path.{◌≡◌}
 use mathlib.Core.Bool.{false}
-use borrow.Author.Tests.{eq-eqb, ne_eqb}
-use Rattle.arith.specs.Bounded.{some, some_intro, some_none}
+use Rattle.arith.specs.Bounded.{some}
 use Rattle.plan.specs.Questions.{sub_area_of, is_of}
 use Rattle.plan_questions.proofs.has_sub_area.Given as goal
 

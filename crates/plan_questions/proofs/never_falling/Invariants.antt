@@ -1,11 +1,8 @@
 use Prim.Native.Nat.{◌+◌, ◌-◌, ◌≤◌}
-use mathlib.Core.Path.{◌≡◌, refl, sym, ap, ◌∙◌}
-use native.Mathlib.Omega.{arith}
-use borrow.Author.Rules.{rules}
+use mathlib.Core.Path.{◌≡◌}
 use mathlib.Core.Bool.{true}
 use lib.Dec.{leb}
-use borrow.Author.Tests.{le-leb, lt-leb}
-use Rattle.arith.specs.Bounded.{every, every_fails, every_more}
+use Rattle.arith.specs.Bounded.{every}
 use Rattle.plan.specs.Questions.{sub_area_of}
 use Rattle.plan_questions.proofs.never_falling.Given as goal
 

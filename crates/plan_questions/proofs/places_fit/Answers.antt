@@ -1,4 +1,3 @@
-use borrow.Author.Rules.{rules}
 use Rattle.plan_questions.proofs.places_fit.Goals as goal
 
 pub returns : goal.returns

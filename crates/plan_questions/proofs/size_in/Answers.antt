@@ -1,5 +1,4 @@
 use borrow.Author.Tests.{eq-eqb, ne_eqb}
-use borrow.Author.Rules.{rules}
 use Rattle.plan_questions.proofs.size_in.Goals as goal
 
 pub returns-then-sub_area-area : goal.returns-then-sub_area-area

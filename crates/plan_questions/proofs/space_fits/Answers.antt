@@ -1,6 +1,4 @@
 use Rattle.plan.specs.Questions.{space_fits}
-use borrow.Author.Tests.{not-false, not-true}
-use borrow.Author.Rules.{rules}
 use Rattle.plan_questions.proofs.space_fits.Goals as goal
 
 pub returns-then-not-has_sub_area : goal.returns-then-not-has_sub_area

@@ -1,5 +1,3 @@
-use borrow.Author.Tests.{not-false, not-true}
-use borrow.Author.Rules.{rules}
 use Rattle.plan_questions.proofs.spaces_fit.Goals as goal
 
 pub returns-then-not-never_falling : goal.returns-then-not-never_falling

@@ -1,11 +1,6 @@
-use Prim.Native.Nat.{◌-◌, ◌≤◌}
-use mathlib.Core.Bool.{true}
-use mathlib.Core.Path.{◌≡◌, refl, sym, ap, ◌∙◌}
+use mathlib.Core.Path.{refl, sym, ap, ◌∙◌}
 use native.Mathlib.Omega.{arith}
-use borrow.Author.Rules.{rules}
-use borrow.Author.Tests.{not-true, not-false}
 use Rattle.arith.specs.Bounded.{every, every_fails, every_more}
-use Rattle.plan.specs.Questions.{area_of, windows_apart}
 use Rattle.plan_questions.proofs.windows_are_apart.Goals as goal
 
 pub loop-j-init : goal.loop-j-init

@@ -1,12 +1,6 @@
-use Prim.Native.Nat.{◌-◌, ◌≤◌}
-use mathlib.Core.Bool.{true}
-use mathlib.Core.Path.{◌≡◌, refl, sym, ap, ◌∙◌}
+use mathlib.Core.Path.{refl, sym, ap, ◌∙◌}
 use native.Mathlib.Omega.{arith}
-use borrow.Author.Rules.{rules}
-use borrow.Author.Tests.{not-true, not-false}
 use Rattle.arith.specs.Bounded.{every, every_fails, every_more}
-use lib.Dec.{leb}
-use Rattle.plan.specs.Questions.{area_of, window_end}
 use Rattle.plan_questions.proofs.windows_end.Goals as goal
 
 pub loop-i-init : goal.loop-i-init

@@ -1,5 +1,3 @@
-use borrow.Author.Tests.{not-false, not-true}
-use borrow.Author.Rules.{rules}
 use Rattle.plan_questions.proofs.windows_fit.Goals as goal
 
 pub returns-then-not-windows_end : goal.returns-then-not-windows_end

@@ -17,7 +17,8 @@ pub returns-then-out-end-lt3000 : goal.returns-then-out-end-lt3000
 returns-then-out-end-lt3000 c = record { written = c.loop-next.invariant.4; k_le_next = (omega arith, omega arith, omega arith); out_len_bound = λ h. omega arith }
 
 pub loop-next-preserved-then-place : goal.loop-next-preserved-then-place
-loop-next-preserved-then-place c = let l = c.loop-next in
+loop-next-preserved-then-place c =
+    let l = c.loop-next in
     let a = c.args in
     let p = c.print_row-end.ensures in
     let row = rw c.if-place.true at c.place_at-place.ensures in (
@@ -29,7 +30,8 @@ loop-next-preserved-then-place c = let l = c.loop-next in
     )
 
 pub loop-next-preserved : goal.loop-next-preserved
-loop-next-preserved c = let l = c.loop-next in
+loop-next-preserved c =
+    let l = c.loop-next in
     let a = c.args in
     let none = rw c.if-place.false at c.place_at-place.ensures in
     (omega arith, omega arith, l.invariant.2, l.invariant.3, rw (← (place_none a.plan 300 l.next c.loop-next-test.true none)) l.invariant.4)

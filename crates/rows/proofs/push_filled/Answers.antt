@@ -13,7 +13,8 @@ pub loop-i-init : goal.loop-i-init
 loop-i-init c = (omega arith, omega arith, omega arith, refl, written_none _ _ _)
 
 pub loop-i-preserved-then-byte-eq35 : goal.loop-i-preserved-then-byte-eq35
-loop-i-preserved-then-byte-eq35 c = let l = c.loop-i in
+loop-i-preserved-then-byte-eq35 c =
+    let l = c.loop-i in
     let a = c.args in
     let p = c.push_number-end.ensures in (
       omega arith,
@@ -25,7 +26,8 @@ loop-i-preserved-then-byte-eq35 c = let l = c.loop-i in
     )
 
 pub loop-i-preserved : goal.loop-i-preserved
-loop-i-preserved c = let l = c.loop-i in
+loop-i-preserved c =
+    let l = c.loop-i in
     let a = c.args in
     let p = c.push-end.ensures in (
       omega arith,
@@ -36,6 +38,7 @@ loop-i-preserved c = let l = c.loop-i in
     )
 
 pub returns : goal.returns
-returns c = let l = c.loop-i in
+returns c =
+    let l = c.loop-i in
     let a = c.args in
     (written_all (none_left a.form.now a.numbers.now l.i l.k c.loop-i-test.false) l.invariant.4, omega arith)

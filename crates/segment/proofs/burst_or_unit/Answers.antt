@@ -1,5 +1,4 @@
-use borrow.Author.Tests.{le-leb, lt-leb, not-false, not-true}
-use borrow.Author.Rules.{rules}
+use borrow.Author.Tests.{le-leb, lt-leb}
 use Rattle.segment.proofs.burst_or_unit.Goals as goal
 
 pub returns-then-not-is_multiple : goal.returns-then-not-is_multiple

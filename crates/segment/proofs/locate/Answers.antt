@@ -1,5 +1,4 @@
 use borrow.Author.Tests.{le-ltb, lt-ltb}
-use borrow.Author.Rules.{rules}
 use Rattle.segment.proofs.locate.Goals as goal
 
 pub returns-then-byte-first : goal.returns-then-byte-first

@@ -1,6 +1,5 @@
 use mathlib.Core.Path.{◌∙◌}
 use Rattle.segment.specs.laws.Found.{segment_from_lem}
-use borrow.Author.Rules.{rules}
 use Rattle.segment.proofs.segment_at.Goals as goal
 
 pub returns : goal.returns

@@ -1,5 +1,4 @@
 use native.Mathlib.Omega.{arith}
-use borrow.Author.Rules.{rules}
 use Rattle.segment.proofs.segment_found.Goals as goal
 
 pub overflow_cast-number : goal.overflow_cast-number

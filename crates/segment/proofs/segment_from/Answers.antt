@@ -3,7 +3,6 @@ use mathlib.Core.Path.{◌∙◌, ap}
 use Prim.Native.Nat.{◌+◌, ◌-◌}
 use native.Mathlib.Omega.{arith}
 use Rattle.segment.specs.laws.Found.{index_within, offset_inside, if_found}
-use borrow.Author.Rules.{rules}
 use Rattle.segment.proofs.segment_from.Goals as goal
 
 pub offset_bounds-sub_areas-i : goal.offset_bounds-sub_areas-i

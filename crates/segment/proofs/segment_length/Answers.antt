@@ -1,4 +1,3 @@
-use borrow.Author.Rules.{rules}
 use Rattle.segment.proofs.segment_length.Goals as goal
 
 pub returns-in-Erase : goal.returns-in-Erase

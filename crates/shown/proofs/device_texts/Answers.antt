@@ -18,7 +18,8 @@ pub device_text-end-requires : goal.device_text-end-requires
 device_text-end-requires c = (omega arith, c.requires.1)
 
 pub loop-d-preserved : goal.loop-d-preserved
-loop-d-preserved c = let l = c.loop-d in
+loop-d-preserved c =
+    let l = c.loop-d in
     (omega arith, omega arith, c.device_text-end.ensures.0.long ∙ l.invariant.2, device_shown _ _ l.d l.invariant.3 c.device_text-end.ensures.0)
 
 pub returns : goal.returns

@@ -10,21 +10,24 @@ unfolding sum
 loop-power-init c = (omega arith, refl, refl)
 
 pub loop-power-smaller : goal.loop-power-smaller
-loop-power-smaller c = let l = c.loop-power in
+loop-power-smaller c =
+    let l = c.loop-power in
     let n = c.args.n in
     let h : 10 ^ (l.behind + 1) ≤ n = omega (arith, power_more l.behind, l.invariant.1) in
     let few : l.behind + 1 ≤ 19 = power_fits (l.behind + 1) n h (omega arith) in
     omega arith
 
 pub loop-power-preserved : goal.loop-power-preserved
-loop-power-preserved c = let l = c.loop-power in
+loop-power-preserved c =
+    let l = c.loop-power in
     let n = c.args.n in
     let h : 10 ^ (l.behind + 1) ≤ n = omega (arith, power_more l.behind, l.invariant.1) in
     let few : l.behind + 1 ≤ 19 = power_fits (l.behind + 1) n h (omega arith) in
     (few, omega (arith, power_more l.behind, l.invariant.1), count_more n l.behind h l.invariant.2)
 
 pub returns : goal.returns
-returns c = let l = c.loop-power in
+returns c =
+    let l = c.loop-power in
     let n = c.args.n in
     let h : n < 10 ^ (l.behind + 1) = omega (arith, power_more l.behind, l.invariant.1) in
     (count_all n l.behind h l.invariant.0 l.invariant.2, l.invariant.1)

@@ -13,11 +13,13 @@ overflow_add-left c = omega (arith, c.first_place-place.ensures.0, count_few c.a
 
 pub loop-left-init : goal.loop-left-init
 unfolding decimal
-loop-left-init c = let f = c.first_place-place.ensures in
+loop-left-init c =
+    let f = c.first_place-place.ensures in
     (omega arith, omega (arith, f.0), refl, rw f.0, f.1 ∙ power_first _)
 
 pub digit_at-digit-requires : goal.digit_at-digit-requires
-digit_at-digit-requires c = let l = c.loop-left in
+digit_at-digit-requires c =
+    let l = c.loop-left in
     let w : l.power ≡ 10 ^ (l.left - 1) = l.invariant.4 ∙ power_less l.left (omega arith) in
     omega (arith, w, power_some (l.left - 1))
 
@@ -25,7 +27,8 @@ pub push-end-requires : goal.push-end-requires
 push-end-requires c = omega (arith, count_few c.args.n)
 
 pub loop-left-preserved : goal.loop-left-preserved
-loop-left-preserved c = let l = c.loop-left in
+loop-left-preserved c =
+    let l = c.loop-left in
     let w : l.power ≡ 10 ^ (l.left - 1) = l.invariant.4 ∙ power_less l.left (omega arith) in
     let p = c.push-end.ensures in
     (omega arith, omega arith, p.0.long ∙ l.invariant.2, digits_turn l.out _ l.end _ l.left c.args.n _ (omega arith) l.invariant.3 (rw (rw w at c.digit_at-digit.ensures) at p.0), ap (λ x. x / 10) w)

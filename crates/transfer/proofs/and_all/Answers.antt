@@ -1,8 +1,7 @@
-use Prim.Native.Nat.{ℕ, ◌+◌, ◌≤◌, ◌-◌, min}
-use mathlib.Core.List.{List, ◌++◌}
+use Prim.Native.Nat.{◌+◌, min}
+use mathlib.Core.List.{◌++◌}
 use mathlib.Core.Path.{◌≡◌, refl, ◌∙◌, sym, ap}
 use native.Mathlib.Omega.{arith}
-use borrow.Author.Rules.{rules}
 use lib.Bits.{bit_and}
 use lib.ListN.{length, take, drop, get_or, set, length-set, take-append-drop}
 use Rattle.arith.specs.Listed.{listed}
@@ -15,7 +14,8 @@ unfolding listed
 loop-i-init c = (c.least-n.ensures, omega arith, refl, refl, refl)
 
 pub loop-i-preserved : goal.loop-i-preserved
-loop-i-preserved c = let l = c.loop-i in
+loop-i-preserved c =
+    let l = c.loop-i in
     let a = c.args in
     let src = a.src.now in
     let first = a.dst.now in
@@ -34,7 +34,8 @@ shape_of-dst c = c.loop-i.invariant.2
 
 pub returns : goal.returns
 unfolding anded
-returns c = let l = c.loop-i in
+returns c =
+    let l = c.loop-i in
     let a = c.args in
     let e : l.i ≡ min (length a.dst.now) (length a.src.now) = omega (arith, l.invariant.0, l.invariant.1) in
     sym (take-append-drop l.i l.dst)

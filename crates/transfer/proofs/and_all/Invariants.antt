@@ -1,12 +1,9 @@
-use Prim.Native.Nat.{ℕ, ◌+◌, ◌≤◌, ◌-◌, min}
-use mathlib.Core.List.{List, ◌++◌}
-use mathlib.Core.Path.{◌≡◌, refl, ◌∙◌, sym, ap}
-use native.Mathlib.Omega.{arith}
-use borrow.Author.Rules.{rules}
+use Prim.Native.Nat.{ℕ, ◌≤◌, ◌-◌, min}
+use mathlib.Core.List.{List}
+use mathlib.Core.Path.{◌≡◌}
 use lib.Bits.{bit_and}
-use lib.ListN.{length, take, drop, get_or, set, length-set, take-append-drop}
+use lib.ListN.{length, take, drop, get_or}
 use Rattle.arith.specs.Listed.{listed}
-use Rattle.transfer.specs.PartLaws.{anded, map_turn, still_at}
 use Rattle.transfer.proofs.and_all.Given as goal
 
 -- byte i of the result

@@ -4,11 +4,11 @@ use lib.Bits.{bit_and}
 use lib.ListN.{length, get_or}
 use Rattle.arith.specs.Listed.{listed, length_listed}
 use Rattle.transfer.specs.PartLaws.{anded, anded_part, part_is, put_is}
-use borrow.Author.Rules.{rules}
 use Rattle.transfer.proofs.and_part.Goals as goal
 
 pub returns : goal.returns
-returns c = let a = c.args in
+returns c =
+    let a = c.args in
     let n = length a.src.now in
     let is =
     c.and_all.ensures

@@ -1,7 +1,7 @@
-use Prim.Native.Nat.{◌≤◌, ◌-◌}
-use mathlib.Core.Path.{◌≡◌, refl, ◌∙◌, sym}
+use Prim.Native.Nat.{◌≤◌}
+use mathlib.Core.Path.{refl, ◌∙◌, sym}
 use native.Mathlib.Omega.{arith}
-use lib.ListN.{length, take, length-set}
+use lib.ListN.{length, length-set}
 use lib.Seq.{take_all}
 use Rattle.transfer.specs.PartLaws.{copy_turn}
 use Rattle.transfer.proofs.copy_all.Goals as goal
@@ -10,7 +10,8 @@ pub loop-i-init : goal.loop-i-init
 loop-i-init c = (omega arith, (refl, refl))
 
 pub loop-i-preserved : goal.loop-i-preserved
-loop-i-preserved c = let l = c.loop-i in
+loop-i-preserved c =
+    let l = c.loop-i in
     let src = c.args.src.now in
     (omega arith, (simp length-set l.invariant.1.0, copy_turn l.dst src l.i (omega arith) (omega arith) l.invariant.1.1))
 
@@ -18,6 +19,7 @@ pub shape_of-dst : goal.shape_of-dst
 shape_of-dst c = c.loop-i.invariant.1.0
 
 pub returns : goal.returns
-returns c = let l = c.loop-i in
+returns c =
+    let l = c.loop-i in
     let e : length l.dst ≤ l.i = omega arith in
     sym (take_all _ _ e) ∙ l.invariant.1.1 ∙ take_all l.i c.args.src.now (omega arith)

@@ -1,9 +1,6 @@
 use Prim.Native.Nat.{◌≤◌, ◌-◌}
-use mathlib.Core.Path.{◌≡◌, refl, ◌∙◌, sym}
-use native.Mathlib.Omega.{arith}
-use lib.ListN.{length, take, length-set, replicate}
-use lib.Seq.{take_all}
-use Rattle.transfer.specs.PartLaws.{fill_turn}
+use mathlib.Core.Path.{◌≡◌}
+use lib.ListN.{length, take, replicate}
 use Rattle.transfer.proofs.fill_all.Given as goal
 
 abbrev pub invariant-loop-i : goal.invariant-loop-i

@@ -1,12 +1,9 @@
 use Prim.Native.Nat.{◌-◌, ◌≤◌}
 use mathlib.Core.Bool.{true}
-use mathlib.Core.Path.{◌≡◌, refl, sym, ap, ◌∙◌}
-use native.Mathlib.Omega.{arith}
-use borrow.Author.Rules.{rules}
-use borrow.Author.Tests.{eq-eqb, ne_eqb}
+use mathlib.Core.Path.{◌≡◌}
 use lib.Dec.{eqb}
 use lib.ListN.{length, get_or}
-use Rattle.arith.specs.Bounded.{every, every_fails, every_more}
+use Rattle.arith.specs.Bounded.{every}
 use Rattle.transfer.proofs.same_all.Given as goal
 
 abbrev pub invariant-loop-i : goal.invariant-loop-i

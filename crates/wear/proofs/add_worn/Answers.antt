@@ -1,9 +1,7 @@
-use Prim.Native.Nat.{◌-◌, ◌≤◌}
-use mathlib.Core.Path.{◌≡◌, refl, ap, ◌∙◌}
+use mathlib.Core.Path.{refl, ap, ◌∙◌}
 use native.Mathlib.Omega.{arith}
 use Rattle.wear.specs.Wear.{add_worn}
 use Rattle.wear.proofs.laws.WearLaws.{add_set, add_left, add_more}
-use borrow.Author.Rules.{rules}
 use Rattle.wear.proofs.add_worn.Goals as goal
 use Rattle.wear.proofs.add_worn.Goals.{then-place-lt32, else-place-lt32}
 
@@ -13,13 +11,13 @@ loop-d-init c = (omega arith, refl)
 
 pub loop-d-preserved : goal.loop-d-preserved
 loop-d-preserved c = let l = c.loop-d in (
-      omega arith,
-      (elim c.if-place-lt32.branch [
-        then-place-lt32 w ↦ add_set _ _ _ _ l.invariant.1 w.if-place-lt32.true _ w.worn_to.ensures w.wear-is
-        | else-place-lt32 w ↦ add_left _ _ _ _ l.invariant.1 w.if-place-lt32.false w.wear-is
-      ])
+  omega arith,
+  (elim c.if-place-lt32.branch [
+    | then-place-lt32 w ↦ add_set _ _ _ _ l.invariant.1 w.if-place-lt32.true _ w.worn_to.ensures w.wear-is
+    | else-place-lt32 w ↦ add_left _ _ _ _ l.invariant.1 w.if-place-lt32.false w.wear-is
+  ])
       ∙ add_more _ _ _,
-    )
+)
 
 pub returns : goal.returns
 returns c = c.loop-d.invariant.1 ∙ ap (λ n. add_worn c.args.worn n c.args.wear.now) (omega arith)

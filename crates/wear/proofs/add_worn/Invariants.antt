@@ -1,10 +1,6 @@
 use Prim.Native.Nat.{◌-◌, ◌≤◌}
-use mathlib.Core.Logic.{⊎_elim}
-use mathlib.Core.Path.{◌≡◌, refl, ap, ◌∙◌}
-use native.Mathlib.Omega.{arith}
+use mathlib.Core.Path.{◌≡◌}
 use Rattle.wear.specs.Wear.{add_worn}
-use Rattle.wear.proofs.laws.WearLaws.{add_set, add_left, add_more}
-use borrow.Author.Rules.{rules}
 use Rattle.wear.proofs.add_worn.Given as goal
 
 abbrev pub invariant-loop-d : goal.invariant-loop-d

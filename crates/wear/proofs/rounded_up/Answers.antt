@@ -2,7 +2,6 @@ use native.Mathlib.Omega.{arith}
 use borrow.Author.Tests.{eq-eqb, ne_eqb}
 use Rattle.wear.specs.Wear.{rounded_up}
 use Rattle.wear.proofs.laws.WearLaws.{up_fits}
-use borrow.Author.Rules.{rules}
 use Rattle.wear.proofs.rounded_up.Goals as goal
 
 pub returns-then-n-d-eq0 : goal.returns-then-n-d-eq0

@@ -1,7 +1,6 @@
 use mathlib.Core.Path.{refl, sym}
 use native.Mathlib.Nat.{div-zero}
 use Rattle.wear.specs.Wear.{sectors_in}
-use borrow.Author.Rules.{rules}
 use Rattle.wear.proofs.sectors_in.Goals as goal
 
 pub returns-then-unit-eq0 : goal.returns-then-unit-eq0

@@ -1,6 +1,5 @@
 use native.Mathlib.Omega.{arith}
 use Rattle.wear.specs.Wear.{worn_to}
-use borrow.Author.Rules.{rules}
 use Rattle.wear.proofs.worn_to.Goals as goal
 
 pub returns-then-room-sectors : goal.returns-then-room-sectors

@@ -1,7 +1,6 @@
 use mathlib.Core.Path.{sym, ◌∙◌}
 use native.Mathlib.Omega.{arith}
 use Rattle.plan.proofs.laws.SizeLaws.{counts, size_few}
-use borrow.Author.Tests.{not-false, not-true}
 use Rattle.loading.proofs.questions.admission.Goals as goal
 
 pub devices_join-requires : goal.devices_join-requires
@@ -33,7 +32,8 @@ unfolding Rattle.arith.specs.FirstNo.first_no Rattle.plan.specs.Questions.record
 returns-then-not-places_fit c = simp (c.if-not-places_fit.true, ← c.places_fit.ensures, c.if-not-all_sizes_fit.false, ← c.all_sizes_fit.ensures, c.if-not-windows_fit.false, ← c.windows_fit.ensures, c.if-not-devices_join.false, ← c.devices_join.ensures)
 
 pub spaces_fit-requires : goal.spaces_fit-requires
-spaces_fit-requires c = let few = counts _ _ _ c.requires in
+spaces_fit-requires c =
+    let few = counts _ _ _ c.requires in
     let d = sym c.devices_join.ensures ∙ c.if-not-devices_join.false in
     let e = sym c.places_fit.ensures ∙ c.if-not-places_fit.false in
     record { area_count_bound = (omega arith, omega arith, omega arith); sizes_bound = size_few _ d e }

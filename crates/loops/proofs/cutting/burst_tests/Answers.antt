@@ -14,11 +14,11 @@ loop-i-init c = (c.least-n.ensures, omega arith, refl, omega arith)
 
 pub loop-i-preserved : goal.loop-i-preserved
 loop-i-preserved c = let inv = c.loop-i.invariant in (
-      inv.0,
-      omega arith,
-      rw (sum_more, ← inv.2) (ap (◌+◌ _) (c.one_if-count.ensures.0 ∙ ap (λ yes. pick yes 1 0) c.is_multiple.ensures)),
-      omega arith,
-    )
+  inv.0,
+  omega arith,
+  rw (sum_more, ← inv.2) (ap (◌+◌ _) (c.one_if-count.ensures.0 ∙ ap (λ yes. pick yes 1 0) c.is_multiple.ensures)),
+  omega arith,
+)
 
 pub returns : goal.returns
 unfolding multiple_count

@@ -15,7 +15,8 @@ pub segment_at-segment-requires : goal.segment_at-segment-requires
 segment_at-segment-requires c = (subst (λ m. m.plan.sub_area_count ≤ 32) (sym c.load-loaded.ensures.manager_value) (loaded_few _), omega arith)
 
 pub loop-i-preserved : goal.loop-i-preserved
-loop-i-preserved c = let here = c.loop-i in
+loop-i-preserved c =
+    let here = c.loop-i in
     let inv = here.invariant in
     let task = c.task_of-task.ensures in
     let called = c.processed_next-processed.ensures in
@@ -28,7 +29,8 @@ loop-i-preserved c = let here = c.loop-i in
     )
 
 pub returns : goal.returns
-returns c = let here = c.loop-i in
+returns c =
+    let here = c.loop-i in
     let manager = c.load-loaded.ensures.manager_value in
     let task = c.task_of-task.ensures in
     here.invariant.3 ∙ ap (cut_total _ _) (omega arith) ∙ ap₂ (λ m t. cut_total m.plan t c.args.times) manager task

@@ -16,7 +16,8 @@ pub segment_found-segment-requires : goal.segment_found-segment-requires
 segment_found-segment-requires c = c.place_in-found.ensures.1
 
 pub loop-i-preserved : goal.loop-i-preserved
-loop-i-preserved c = let here = c.loop-i in
+loop-i-preserved c =
+    let here = c.loop-i in
     let inv = here.invariant in
     let made = c.task_of-task in
     let task = made.result in
@@ -32,7 +33,8 @@ loop-i-preserved c = let here = c.loop-i in
     )
 
 pub returns : goal.returns
-returns c = let here = c.loop-i in
+returns c =
+    let here = c.loop-i in
     let loaded = c.load-loaded in
     let made = c.task_of-task in
     let times = c.args.times in

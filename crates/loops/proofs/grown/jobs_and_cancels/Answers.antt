@@ -22,7 +22,8 @@ pub loop-i-smaller : goal.loop-i-smaller
 loop-i-smaller c = omega (arith, c.loop-i-test.true)
 
 pub loop-i-preserved : goal.loop-i-preserved
-loop-i-preserved c = let here = c.loop-i in
+loop-i-preserved c =
+    let here = c.loop-i in
     let inv = here.invariant in
     let task = c.task_of-task.ensures in
     let begun = c.submit-begun.ensures in
@@ -39,7 +40,8 @@ pub rest_of-requires : goal.rest_of-requires
 rest_of-requires c = c.loop-i.invariant.4
 
 pub returns : goal.returns
-returns c = let inv = c.loop-i.invariant in
+returns c =
+    let inv = c.loop-i.invariant in
     let loaded = ap manager_in c.of-grown.ensures ∙ c.load-loaded.ensures.manager_value in
     let none : c.loop-i.sum + c.rest_of.result ≡ c.loop-i.sum = omega (arith, c.rest_of.ensures) in
     none ∙ inv.2 ∙ ap₂ (pair_total _ _) loaded (omega arith)

@@ -20,7 +20,8 @@ pub overflow_add-i : goal.overflow_add-i
 overflow_add-i c = omega (arith, c.loop-i-test.true, c.ranges.times)
 
 pub loop-i-preserved : goal.loop-i-preserved
-loop-i-preserved c = let here = c.loop-i in
+loop-i-preserved c =
+    let here = c.loop-i in
     let inv = here.invariant in
     let done = c.round-answered.ensures in (
       omega arith,
@@ -39,7 +40,8 @@ pub overflow_add-result-2 : goal.overflow_add-result-2
 overflow_add-result-2 c = omega (arith, c.loop-i.invariant.5, c.loop-i.invariant.0, c.ranges.times, c.rest_of-rest.ensures, c.left_sum.ensures.upper_bound)
 
 pub returns : goal.returns
-returns c = let here = c.loop-i in
+returns c =
+    let here = c.loop-i in
     let inv = here.invariant in
     let all : c.args.times ≡ here.i = omega arith in
     let begun = ap manager_in c.of-grown.ensures ∙ c.busy-busy.ensures in

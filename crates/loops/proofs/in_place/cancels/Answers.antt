@@ -10,7 +10,8 @@ unfolding repeated total
 loop-i-init c = (omega arith, refl, refl, omega arith)
 
 pub loop-i-preserved : goal.loop-i-preserved
-loop-i-preserved c = let here = c.loop-i in
+loop-i-preserved c =
+    let here = c.loop-i in
     let inv = here.invariant in
     let called = c.cancel_change-change.ensures in
     (omega arith, rw (repeated_more, ← inv.1) (called.manager_value here.manager.wear), rw (total_more, ← inv.1, ← inv.2) (ap (◌+◌ _) (c.number-number.ensures ∙ called.answer_value here.manager.wear)), omega arith)

@@ -17,7 +17,8 @@ pub overflow_add-i : goal.overflow_add-i
 overflow_add-i c = omega (arith, c.loop-i-test.true, c.ranges.times)
 
 pub loop-i-preserved : goal.loop-i-preserved
-loop-i-preserved c = let here = c.loop-i in
+loop-i-preserved c =
+    let here = c.loop-i in
     let inv = here.invariant in
     let task = c.task_of-task.ensures in
     let called = c.job_change-change.ensures in

@@ -20,7 +20,8 @@ pub loop-i-smaller : goal.loop-i-smaller
 loop-i-smaller c = omega (arith, c.loop-i-test.true)
 
 pub loop-i-preserved : goal.loop-i-preserved
-loop-i-preserved c = let here = c.loop-i in
+loop-i-preserved c =
+    let here = c.loop-i in
     let inv = here.invariant in
     let task = c.task_of-task.ensures in
     let begun = c.job_change-change.ensures in

@@ -16,7 +16,8 @@ pub overflow_add-i : goal.overflow_add-i
 overflow_add-i c = omega (arith, c.loop-i-test.true, c.ranges.times)
 
 pub loop-i-preserved : goal.loop-i-preserved
-loop-i-preserved c = let here = c.loop-i in
+loop-i-preserved c =
+    let here = c.loop-i in
     let inv = here.invariant in
     let r = c.round_change-change in
     let wear = here.manager.wear in
@@ -30,7 +31,8 @@ loop-i-preserved c = let here = c.loop-i in
     )
 
 pub returns : goal.returns
-returns c = let here = c.loop-i in
+returns c =
+    let here = c.loop-i in
     let inv = here.invariant in
     let all : c.args.times ≡ here.i = omega arith in
     rw (← c.busy-manager.ensures, ← c.answer_of-answers.ensures, all) (record { value = rw (← inv.3, ← inv.4) (ap (◌+◌ here.sum) c.left_sum.ensures.value); image_after = ap (λ b. b.lent.image) inv.3; store_after = ap (λ b. b.lent.store) inv.3 })

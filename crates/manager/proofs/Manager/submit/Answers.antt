@@ -13,27 +13,30 @@ use borrow.Author.Rules.{rules}
 use Rattle.manager.proofs.Manager.submit.Goals as goal
 
 pub begin-change-requires : goal.begin-change-requires
-begin-change-requires c = let a = c.args in
+begin-change-requires c =
+    let a = c.args in
     let k = c.ask-asked.ensures in
     let x = c.idle_admission-answer in
     let is = x.ensures ∙ ap (λ z. first_no 9 (z.sound ∷ is_known a.self.plan a.area ∷ not (is_pending z.area.job) ∷ [])) k.value in
     (job_asked a.self.plan a.self.areas a.self.devices a.self.ages a.self.wear a.area a.task x.result is c.in-Accepted.is, k.number_bound)
 
 pub with-requires : goal.with-requires
-with-requires c = let r = c.begin-change.ensures.value in
+with-requires c =
+    let r = c.begin-change.ensures.value in
     (omega (arith, ap (λ z. z.area_number) r, c.ask-asked.ensures.number_bound), omega (arith, ap (λ z. z.device_number) r))
 
 pub returns-in-Refused : goal.returns-in-Refused
-returns-in-Refused c = let a = c.args in
+returns-in-Refused c =
+    let a = c.args in
     let k = c.ask-asked.ensures in
     let x = c.idle_admission-answer in
     let is = x.ensures ∙ ap (λ z. first_no 9 (z.sound ∷ is_known a.self.plan a.area ∷ not (is_pending z.area.job) ∷ [])) k.value in
-    
     let both = job_none a.self.plan a.self.areas a.self.devices a.self.ages a.self.wear a.area a.task x.result is _ c.in-Refused.is in
     record { answer_value = both.0; manager_value = both.1 }
 
 pub returns-in-Accepted : goal.returns-in-Accepted
-returns-in-Accepted c = let a = c.args in
+returns-in-Accepted c =
+    let a = c.args in
     let k = c.ask-asked.ensures in
     let x = c.idle_admission-answer in
     let is = x.ensures ∙ ap (λ z. first_no 9 (z.sound ∷ is_known a.self.plan a.area ∷ not (is_pending z.area.job) ∷ [])) k.value in

@@ -14,14 +14,16 @@ use borrow.Author.Rules.{rules}
 use Rattle.manager.proofs.in_place.job_change.Goals as goal
 
 pub begin-requires : goal.begin-requires
-begin-requires c = let a = c.args in
+begin-requires c =
+    let a = c.args in
     let k = c.ask-asked.ensures in
     let x = c.idle_admission-answer in
     let is = x.ensures ∙ ap (λ z. first_no 9 (z.sound ∷ is_known a.plan a.area ∷ not (is_pending z.area.job) ∷ [])) k.value in
     (job_asked a.plan a.areas a.devices a.ages [] a.area a.task x.result is c.in-Accepted.is, k.number_bound)
 
 pub returns-in-Refused : goal.returns-in-Refused
-returns-in-Refused c = let a = c.args in
+returns-in-Refused c =
+    let a = c.args in
     let k = c.ask-asked.ensures in
     let x = c.idle_admission-answer in
     let is = x.ensures ∙ ap (λ z. first_no 9 (z.sound ∷ is_known a.plan a.area ∷ not (is_pending z.area.job) ∷ [])) k.value in
@@ -29,7 +31,8 @@ returns-in-Refused c = let a = c.args in
     rw c.none.ensures (record { answer_value = (λ wear. (j wear).0); manager_value = (λ wear. kept a.plan a.areas a.devices a.ages wear x.result ∙ (j wear).1); numbers_bound = (omega arith, omega arith) })
 
 pub returns-in-Accepted : goal.returns-in-Accepted
-returns-in-Accepted c = let a = c.args in
+returns-in-Accepted c =
+    let a = c.args in
     let k = c.ask-asked.ensures in
     let x = c.idle_admission-answer in
     let is = x.ensures ∙ ap (λ z. first_no 9 (z.sound ∷ is_known a.plan a.area ∷ not (is_pending z.area.job) ∷ [])) k.value in

@@ -13,7 +13,8 @@ use Rattle.manager.proofs.in_place.round_change.Goals as goal
 
 pub run_round-next-requires : goal.run_round-next-requires
 unfolding round_number_of
-run_round-next-requires c = let a = c.args in
+run_round-next-requires c =
+    let a = c.args in
     let m = manager_of a.plan a.areas a.devices a.ages [] in
     let lent = memory_of a.image.now a.store.now in
     let x = c.round_admission-asked.ensures in
@@ -22,7 +23,8 @@ run_round-next-requires c = let a = c.args in
 
 pub returns-in-Refused : goal.returns-in-Refused
 unfolding round_number_of
-returns-in-Refused c = let a = c.args in
+returns-in-Refused c =
+    let a = c.args in
     let m : List ℕ → Manager = manager_of a.plan a.areas a.devices a.ages in
     let lent = memory_of a.image.now a.store.now in
     let x = c.round_admission-asked.ensures in
@@ -30,7 +32,8 @@ returns-in-Refused c = let a = c.args in
 
 pub returns-in-Accepted : goal.returns-in-Accepted
 unfolding round_number_of
-returns-in-Accepted c = let a = c.args in
+returns-in-Accepted c =
+    let a = c.args in
     let m : List ℕ → Manager = manager_of a.plan a.areas a.devices a.ages in
     let lent = memory_of a.image.now a.store.now in
     let x = c.round_admission-asked.ensures in

@@ -1,4 +1,3 @@
-use borrow.Author.Rules.{rules}
 use Rattle.memory.proofs.Refusal.number.Goals as goal
 
 pub returns-in-Records : goal.returns-in-Records

@@ -1,5 +1,4 @@
 use borrow.Author.Tests.{eq-eqb, le-leb, lt-leb, ne_eqb}
-use borrow.Author.Rules.{rules}
 use Rattle.plan.proofs.checks.are_apart.Goals as goal
 
 pub returns-then-s-n : goal.returns-then-s-n

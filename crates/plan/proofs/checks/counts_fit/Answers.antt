@@ -1,5 +1,3 @@
-use borrow.Author.Tests.{not-false, not-true}
-use borrow.Author.Rules.{rules}
 use Rattle.plan.proofs.checks.counts_fit.Goals as goal
 
 pub returns-then-not-is_within : goal.returns-then-not-is_within

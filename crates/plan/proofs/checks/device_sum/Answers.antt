@@ -1,7 +1,6 @@
-use Prim.Native.Nat.{ℕ, ◌-◌, ◌*◌, ◌≤◌}
-use mathlib.Core.Path.{◌≡◌, refl, ap, ◌∙◌}
+use Prim.Native.Nat.{ℕ}
+use mathlib.Core.Path.{refl, ap, ◌∙◌}
 use native.Mathlib.Omega.{arith}
-use borrow.Author.Rules.{rules}
 use Rattle.plan.specs.Questions.{length_sum}
 use Rattle.plan.proofs.laws.SizeLaws.{length_more}
 use Rattle.plan.proofs.checks.device_sum.Goals as goal
@@ -11,7 +10,8 @@ unfolding Rattle.arith.specs.Bounded.sum
 loop-i-init c = (omega arith, refl, omega arith)
 
 pub loop-i-preserved : goal.loop-i-preserved
-loop-i-preserved c = let l = c.loop-i in
+loop-i-preserved c =
+    let l = c.loop-i in
     let longer = length_more c.args.devices l.i in
     (omega arith, omega arith, omega arith)
 

@@ -1,9 +1,6 @@
-use Prim.Native.Nat.{ℕ, ◌-◌, ◌*◌, ◌≤◌}
-use mathlib.Core.Path.{◌≡◌, refl, ap, ◌∙◌}
-use native.Mathlib.Omega.{arith}
-use borrow.Author.Rules.{rules}
+use Prim.Native.Nat.{◌-◌, ◌*◌, ◌≤◌}
+use mathlib.Core.Path.{◌≡◌}
 use Rattle.plan.specs.Questions.{length_sum}
-use Rattle.plan.proofs.laws.SizeLaws.{length_more}
 use Rattle.plan.proofs.checks.device_sum.Given as goal
 
 abbrev pub invariant-loop-i : goal.invariant-loop-i

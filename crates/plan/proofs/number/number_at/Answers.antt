@@ -1,9 +1,7 @@
-use Prim.Native.Nat.{◌+◌, ◌-◌, ◌^◌, ◌≤◌, ◌<◌}
+use Prim.Native.Nat.{◌-◌, ◌≤◌, ◌<◌}
 use mathlib.Core.Path.{◌≡◌}
 use native.Mathlib.Omega.{arith}
 use native.Mathlib.Nat.{sub-zero, add-zero}
-use borrow.Author.Rules.{rules}
-use Rattle.plan.specs.Number.{number_at}
 use Rattle.plan.proofs.laws.NumberLaws.{number_none, number_more, power_none, power_more, power_seven}
 use Rattle.plan.proofs.number.number_at.Goals as goal
 
@@ -17,7 +15,8 @@ pub overflow_add-value : goal.overflow_add-value
 overflow_add-value c = omega (arith, power_seven (c.args.width - c.loop-i.i) (omega arith))
 
 pub loop-i-preserved : goal.loop-i-preserved
-loop-i-preserved c = let a = c.args in
+loop-i-preserved c =
+    let a = c.args in
     let i = c.loop-i.i in
     let some : 0 < i = omega arith in
     let few : i ≤ a.width = omega arith in
@@ -26,5 +25,6 @@ loop-i-preserved c = let a = c.args in
     (omega arith, omega arith, omega arith)
 
 pub returns : goal.returns
-returns c = let none : c.loop-i.i ≡ 0 = omega arith in
+returns c =
+    let none : c.loop-i.i ≡ 0 = omega arith in
     (rw (none, sub-zero, add-zero) at c.loop-i.invariant.1, rw (none, sub-zero) at c.loop-i.invariant.2)

@@ -1,9 +1,6 @@
-use Prim.Native.Nat.{◌+◌, ◌-◌, ◌*◌, ◌≤◌}
-use mathlib.Core.Path.{◌≡◌, ◌∙◌, ap}
+use mathlib.Core.Path.{◌∙◌, ap}
 use native.Mathlib.Omega.{arith}
-use borrow.Author.Rules.{rules}
 use Rattle.arith.specs.Tables.{table, table_more}
-use Rattle.plan.specs.Records.{area_at, no_area}
 use Rattle.plan.proofs.records.read_areas.Goals as goal
 
 pub loop-i-init : goal.loop-i-init

@@ -1,8 +1,6 @@
 use Prim.Native.Nat.{◌-◌, ◌*◌, ◌≤◌}
-use mathlib.Core.Path.{◌≡◌, ◌∙◌, ap}
-use native.Mathlib.Omega.{arith}
-use borrow.Author.Rules.{rules}
-use Rattle.arith.specs.Tables.{table, table_more}
+use mathlib.Core.Path.{◌≡◌}
+use Rattle.arith.specs.Tables.{table}
 use Rattle.plan.specs.Records.{device_at, no_device}
 use Rattle.plan.proofs.records.read_devices.Given as goal
 

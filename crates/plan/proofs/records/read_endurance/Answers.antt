@@ -1,9 +1,7 @@
-use Prim.Native.Nat.{◌+◌, ◌-◌, ◌*◌, ◌≤◌}
-use mathlib.Core.Path.{◌≡◌, refl, ap, ◌∙◌}
+use mathlib.Core.Path.{refl, ap, ◌∙◌}
 use native.Mathlib.Omega.{arith}
-use borrow.Author.Rules.{rules}
 use Rattle.arith.specs.Tables.{table}
-use Rattle.plan.specs.Records.{wear_at, endurance_by}
+use Rattle.plan.specs.Records.{endurance_by}
 use Rattle.plan.proofs.laws.WearLaws.{endurance_set, endurance_past}
 use Rattle.plan.proofs.records.read_endurance.Goals as goal
 use Rattle.plan.proofs.records.read_endurance.Goals.{then-sub_area-lt32, else-sub_area-lt32}
@@ -13,12 +11,15 @@ unfolding endurance_by table
 loop-i-init c = (omega arith, refl)
 
 pub loop-i-preserved : goal.loop-i-preserved
-loop-i-preserved c = let r = c.read-wear.ensures in
-    let was = c.loop-i.invariant.1 in
-    (omega arith, elim c.if-sub_area-lt32.branch [
-      then-sub_area-lt32 w ↦ endurance_set _ _ _ r _ _ was w.endurance-is
-      | else-sub_area-lt32 w ↦ endurance_past _ _ _ r _ _ was w.if-sub_area-lt32.false w.endurance-is
-    ])
+loop-i-preserved c =
+    let r = c.read-wear.ensures in
+    let was = c.loop-i.invariant.1 in (
+      omega arith,
+      elim c.if-sub_area-lt32.branch [
+        | then-sub_area-lt32 w ↦ endurance_set _ _ _ r _ _ was w.endurance-is
+        | else-sub_area-lt32 w ↦ endurance_past _ _ _ r _ _ was w.if-sub_area-lt32.false w.endurance-is
+      ],
+    )
 
 pub returns : goal.returns
 returns c = c.loop-i.invariant.1 ∙ ap (λ f. table 32 f 0 32) (ap (endurance_by _) (omega arith))

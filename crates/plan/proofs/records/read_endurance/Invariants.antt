@@ -1,11 +1,7 @@
 use Prim.Native.Nat.{◌+◌, ◌-◌, ◌*◌, ◌≤◌}
-use mathlib.Core.Logic.{⊎_elim}
-use mathlib.Core.Path.{◌≡◌, refl, ap, ◌∙◌}
-use native.Mathlib.Omega.{arith}
-use borrow.Author.Rules.{rules}
+use mathlib.Core.Path.{◌≡◌}
 use Rattle.arith.specs.Tables.{table}
 use Rattle.plan.specs.Records.{wear_at, endurance_by}
-use Rattle.plan.proofs.laws.WearLaws.{endurance_set, endurance_past}
 use Rattle.plan.proofs.records.read_endurance.Given as goal
 
 abbrev pub invariant-loop-i : goal.invariant-loop-i

@@ -1,10 +1,6 @@
-use Prim.Native.Nat.{◌+◌, ◌-◌, ◌*◌, ◌≤◌}
-use mathlib.Core.Path.{◌≡◌, ◌∙◌, ap}
+use mathlib.Core.Path.{◌∙◌, ap}
 use native.Mathlib.Omega.{arith}
-use borrow.Author.Rules.{rules}
 use Rattle.arith.specs.Tables.{table, table_more}
-use Rattle.plan.specs.Records.{sub_area_at, no_sub_area}
-use borrow.Author.Rules.{rules}
 use Rattle.plan.proofs.records.read_sub_areas.Goals as goal
 
 pub loop-i-init : goal.loop-i-init

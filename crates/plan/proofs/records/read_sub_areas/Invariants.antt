@@ -1,10 +1,7 @@
 use Prim.Native.Nat.{◌+◌, ◌-◌, ◌*◌, ◌≤◌}
-use mathlib.Core.Path.{◌≡◌, ◌∙◌, ap}
-use native.Mathlib.Omega.{arith}
-use borrow.Author.Rules.{rules}
-use Rattle.arith.specs.Tables.{table, table_more}
+use mathlib.Core.Path.{◌≡◌}
+use Rattle.arith.specs.Tables.{table}
 use Rattle.plan.specs.Records.{sub_area_at, no_sub_area}
-use borrow.Author.Rules.{rules}
 use Rattle.plan.proofs.records.read_sub_areas.Given as goal
 
 abbrev pub invariant-loop-i : goal.invariant-loop-i

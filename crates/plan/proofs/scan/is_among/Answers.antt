@@ -1,7 +1,6 @@
 use borrow.Author.Tests.{eq-eqb, ne_eqb}
 use Rattle.arith.specs.Bounded.{some}
 use Rattle.plan.proofs.laws.RecordLaws.{among_last}
-use borrow.Author.Rules.{rules}
 use Rattle.plan.proofs.scan.is_among.Goals as goal
 
 pub returns-then-second-seconds : goal.returns-then-second-seconds

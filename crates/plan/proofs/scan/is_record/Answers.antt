@@ -5,19 +5,21 @@ use lib.ListN.{length}
 use native.Mathlib.Omega.{arith}
 use Prim.Native.Nat.{◌+◌}
 use mathlib.Core.Path.{◌∙◌}
-use borrow.Author.Rules.{rules}
 use Rattle.plan.proofs.scan.is_record.Goals as goal
 
 pub returns-then-bytes-at : goal.returns-then-bytes-at
 unfolding is_record
-returns-then-bytes-at c = let a = c.args in
+returns-then-bytes-at c =
+    let a = c.args in
     simp (lt-leb (a.at + a.format.size) (length a.bytes.now) (omega arith))
 
 pub returns-then-bytes-at-2 : goal.returns-then-bytes-at-2
 unfolding is_record
-returns-then-bytes-at-2 c = let a = c.args in
+returns-then-bytes-at-2 c =
+    let a = c.args in
     simp (ne_eqb _ _ c.if-bytes-at-2.true, le-leb (a.at + a.format.size) (length a.bytes.now) (omega arith))
 
 pub returns : goal.returns
-returns c = let a = c.args in
+returns c =
+    let a = c.args in
     c.is_among.ensures ∙ record_second a.format a.bytes.now a.at (omega arith) c.if-bytes-at-2.false

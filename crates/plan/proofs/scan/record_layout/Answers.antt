@@ -1,9 +1,9 @@
 use Rattle.plan.proofs.laws.RecordLaws.{layout_is}
-use borrow.Author.Rules.{rules}
 use Rattle.plan.proofs.scan.record_layout.Goals as goal
 
 pub returns : goal.returns
-returns c = let d = c.run_from-devices.ensures in
+returns c =
+    let d = c.run_from-devices.ensures in
     let a = c.run_from-areas.ensures in
     let s = c.run_from-sub_areas.ensures in
     let w = c.run_from-wear.ensures in

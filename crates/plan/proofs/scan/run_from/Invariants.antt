@@ -1,12 +1,7 @@
 use Prim.Native.Nat.{◌+◌, ◌-◌, ◌*◌, ◌≤◌}
-use mathlib.Core.Path.{◌≡◌, ◌∙◌, sym}
-use native.Mathlib.Omega.{arith}
-use native.Mathlib.Nat.{sub-zero, zero-add, zero-mul, suc-mul}
-use native.Mathlib.Numerals.{add-one}
-use borrow.Author.Rules.{rules}
+use mathlib.Core.Path.{◌≡◌}
 use lib.ListN.{length}
 use Rattle.plan.specs.Records.{records_up_to, records_from}
-use Rattle.plan.proofs.laws.RecordLaws.{record_fits, run_more, run_end}
 use Rattle.plan.proofs.scan.run_from.Given as goal
 
 abbrev pub invariant-loop-format : goal.invariant-loop-format

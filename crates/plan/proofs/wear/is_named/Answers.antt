@@ -1,12 +1,7 @@
-use Prim.Native.Nat.{◌+◌, ◌-◌, ◌*◌, ◌≤◌}
-use mathlib.Core.Path.{◌≡◌, refl, sym, ap, ◌∙◌}
+use mathlib.Core.Path.{refl, sym, ap, ◌∙◌}
 use native.Mathlib.Omega.{arith}
-use borrow.Author.Rules.{rules}
-use mathlib.Core.Bool.{false}
 use borrow.Author.Tests.{eq-eqb, ne_eqb}
 use Rattle.arith.specs.Bounded.{some, some_intro, some_none}
-use Rattle.plan.specs.Records.{wear_at}
-use Rattle.plan.specs.Questions.{is_named}
 use Rattle.plan.proofs.wear.is_named.Goals as goal
 
 pub loop-j-init : goal.loop-j-init

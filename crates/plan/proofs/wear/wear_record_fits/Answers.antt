@@ -1,5 +1,4 @@
 use Rattle.plan.proofs.laws.WearLaws.{unknown, endures_nothing, known_once}
-use borrow.Author.Rules.{rules}
 use Rattle.plan.proofs.wear.wear_record_fits.Goals as goal
 
 pub returns-then-sub_area_count-wear : goal.returns-then-sub_area_count-wear

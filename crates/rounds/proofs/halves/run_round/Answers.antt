@@ -28,7 +28,8 @@ use Rattle.rounds.proofs.halves.run_round.Goals as goal
 
 pub loop-k-init : goal.loop-k-init
 unfolding table
-loop-k-init c = let s = c in
+loop-k-init c =
+    let s = c in
     ((sound_counts s.args.plan s.args.areas s.args.devices s.requires.0).0, omega arith, ap (replicate 4) c.none-worn.ensures)
 
 pub offset_bounds-devices-k : goal.offset_bounds-devices-k
@@ -56,7 +57,8 @@ pub loop-k-smaller : goal.loop-k-smaller
 loop-k-smaller c = omega (arith, c.loop-k-test.true)
 
 pub loop-k-preserved : goal.loop-k-preserved
-loop-k-preserved c = let s = c in
+loop-k-preserved c =
+    let s = c in
     let l = c.loop-k in
     let more = c.loop-k-test.true in
     let r = c.runner-area in
@@ -66,7 +68,8 @@ loop-k-preserved c = let s = c in
 
 pub loop-d-init : goal.loop-d-init
 unfolding take_all
-loop-d-init c = let s = c in
+loop-d-init c =
+    let s = c in
     let few = sound_counts s.args.plan s.args.areas s.args.devices s.requires.0 in
     (few.0, few.1, few.2, omega arith, refl, refl, refl, refl, refl, s.well_formed.1.1.0.1.0.1, s.well_formed.1.1.1.0.1.0.1, s.well_formed.1.1.1.1.1.0.1.0.1, refl, s.requires.3)
 
@@ -89,7 +92,8 @@ pub bounds-answers-d : goal.bounds-answers-d
 bounds-answers-d c = omega (arith, c.loop-d.invariant.0, c.loop-d-test.true)
 
 pub take_answer-turn-requires : goal.take_answer-turn-requires
-take_answer-turn-requires c = let s = c in
+take_answer-turn-requires c =
+    let s = c in
     let p = s.args.plan in
     let l = c.loop-d in (
       l.invariant.2,
@@ -108,7 +112,8 @@ pub overflow_add-d : goal.overflow_add-d
 overflow_add-d c = omega (arith, c.loop-d.invariant.0, c.loop-d-test.true)
 
 pub loop-d-preserved : goal.loop-d-preserved
-loop-d-preserved c = let s = c in
+loop-d-preserved c =
+    let s = c in
     let p = s.args.plan in
     let l = c.loop-d in
     let t = c.take_answer-turn in
@@ -161,7 +166,8 @@ pub overflow_add-e : goal.overflow_add-e
 overflow_add-e c = omega (arith, c.loop-d.invariant.0, c.loop-e-test.true)
 
 pub loop-e-preserved : goal.loop-e-preserved
-loop-e-preserved c = let s = c in
+loop-e-preserved c =
+    let s = c in
     let p = s.args.plan in
     let rules = c.needed_devices-needs.result in
     let l = c.loop-e in (
@@ -174,7 +180,8 @@ loop-e-preserved c = let s = c in
     )
 
 pub loop-a-init : goal.loop-a-init
-loop-a-init c = let s = c in
+loop-a-init c =
+    let s = c in
     let p = s.args.plan in
     let l = c.loop-e in
     (omega arith, closed_none (area_after (needs_layout p.areas s.args.ages 0 [] c.needed_devices-needs.result) s.args.areas (core_in l.areas l.devices)) l.areas l.invariant.1)
@@ -183,7 +190,8 @@ pub overflow_cast-needs : goal.overflow_cast-needs
 overflow_cast-needs c = elem_Fits _ _ c.needed_devices-needs.result _ c.loop-a.a c.needed_devices-needs.type_inv.1.1 tt
 
 pub loop-a-preserved : goal.loop-a-preserved
-loop-a-preserved c = let s = c in
+loop-a-preserved c =
+    let s = c in
     let p = s.args.plan in
     let h = c.loop-e in
     let l = c.loop-a in (
@@ -193,7 +201,8 @@ loop-a-preserved c = let s = c in
     )
 
 pub returns : goal.returns
-returns c = let s = c in
+returns c =
+    let s = c in
     let p = s.args.plan in
     let m = memory_of s.args.image.now s.args.store.now in
     let rules = c.needed_devices-needs.result in

@@ -13,7 +13,8 @@ unfolding Rattle.segment.specs.laws.Lookup.met
 returns-then-sub_area-area c = simp (ne_eqb _ _ c.if-sub_area-area.true, c.if-self.false)
 
 pub overflow_add-at : goal.overflow_add-at
-overflow_add-at c = let s = c.args.sub_area in
+overflow_add-at c =
+    let s = c.args.sub_area in
     omega (arith, c.if-self-size.true, c.size-size.ensures.0, product_fits {a = s.erase.unit} {b = s.sector_count} (search rules) (search rules))
 
 pub returns-then-self-size : goal.returns-then-self-size

@@ -15,28 +15,37 @@ use borrow.Author.Rules.{rules}
 use Rattle.session.proofs.fold.play_lines.Goals as goal
 
 pub loop-at-init : goal.loop-at-init
-loop-at-init c = let a = c.args in
+loop-at-init c =
+    let a = c.args in
     let zero : used_to 0 a.input.now ≡ 0 = omega arith in
     (omega arith, omega arith, refl, refl, refl, ap (λ u. played_lines a.ends (length a.out.now) (cut_from 10 a.input.now 0) (session_of a.manager a.image.now a.store.now a.out.now 0 u)) zero ∙ ap (λ F. played_lines a.ends (length a.out.now) F (session_of a.manager a.image.now a.store.now a.out.now 0 0)) (fields_all 10 a.input.now))
 
 pub returns-then-out-end : goal.returns-then-out-end
-returns-then-out-end c = let l = c.loop-at in
+returns-then-out-end c =
+    let l = c.loop-at in
     let a = c.args in
     let m = manager_of a.manager.plan l.areas l.devices l.ages l.wear in
-    let u : l.at ≡ used_to l.at a.input.now = omega arith in record { used_after = ap (session_of m l.image l.store l.out l.end) u
+    let u : l.at ≡ used_to l.at a.input.now = omega arith in record {
+      used_after = ap (session_of m l.image l.store l.out l.end) u
           ∙ lines_full a.ends (length a.out.now) m l.image l.store l.out l.end (used_to l.at a.input.now) (omega arith) (omega arith) (cut_from 10 a.input.now l.at)
-          ∙ l.invariant.5; written_in_bounds = (omega arith, omega arith) }
+          ∙ l.invariant.5;
+      written_in_bounds = (omega arith, omega arith);
+    }
 
 pub returns-then-not-is_line : goal.returns-then-not-is_line
-returns-then-not-is_line c = let l = c.loop-at in
+returns-then-not-is_line c =
+    let l = c.loop-at in
     let a = c.args in
     let m = manager_of a.manager.plan l.areas l.devices l.ages l.wear in
     let e = c.part_end-to in
     let u : l.at ≡ used_to l.at a.input.now = omega arith in
-    let no = sym c.is_line.ensures ∙ c.if-not-is_line.true in record { used_after = ap (session_of m l.image l.store l.out l.end) u
+    let no = sym c.is_line.ensures ∙ c.if-not-is_line.true in record {
+      used_after = ap (session_of m l.image l.store l.out l.end) u
           ∙ lines_none a.ends (length a.out.now) m l.image l.store l.out l.end (used_to l.at a.input.now) (omega arith)
           (omega arith) a.input.now l.at e.result e.ensures.0 e.ensures.1 e.ensures.2 no
-          ∙ l.invariant.5; written_in_bounds = (omega arith, omega arith) }
+          ∙ l.invariant.5;
+      written_in_bounds = (omega arith, omega arith);
+    }
 
 pub question_line-end-requires : goal.question_line-end-requires
 question_line-end-requires c = omega (arith, c.if-out-end.false)
@@ -45,7 +54,8 @@ pub loop-at-smaller-in-Unreadable : goal.loop-at-smaller-in-Unreadable
 loop-at-smaller-in-Unreadable c = omega (arith, c.loop-at-test.true, c.part_end-to.ensures.0)
 
 pub loop-at-preserved-in-Unreadable : goal.loop-at-preserved-in-Unreadable
-loop-at-preserved-in-Unreadable c = let l = c.loop-at in
+loop-at-preserved-in-Unreadable c =
+    let l = c.loop-at in
     let a = c.args in
     let m = manager_of a.manager.plan l.areas l.devices l.ages l.wear in
     let e = c.part_end-to in
@@ -67,7 +77,8 @@ pub loop-at-smaller-in-Call : goal.loop-at-smaller-in-Call
 loop-at-smaller-in-Call c = omega (arith, c.loop-at-test.true, c.part_end-to.ensures.0)
 
 pub loop-at-preserved-in-Call : goal.loop-at-preserved-in-Call
-loop-at-preserved-in-Call c = let l = c.loop-at in
+loop-at-preserved-in-Call c =
+    let l = c.loop-at in
     let a = c.args in
     let m = manager_of a.manager.plan l.areas l.devices l.ages l.wear in
     let e = c.part_end-to in
@@ -90,7 +101,8 @@ pub loop-at-smaller-in-Info : goal.loop-at-smaller-in-Info
 loop-at-smaller-in-Info c = omega (arith, c.loop-at-test.true, c.part_end-to.ensures.0)
 
 pub loop-at-preserved-in-Info : goal.loop-at-preserved-in-Info
-loop-at-preserved-in-Info c = let l = c.loop-at in
+loop-at-preserved-in-Info c =
+    let l = c.loop-at in
     let a = c.args in
     let m = manager_of a.manager.plan l.areas l.devices l.ages l.wear in
     let e = c.part_end-to in
@@ -107,7 +119,8 @@ loop-at-preserved-in-Info c = let l = c.loop-at in
     (omega (arith, e.ensures.1), omega (arith, t.0, t.1, room), l.invariant.2, l.invariant.3, t.1 ∙ l.invariant.4, t.2)
 
 pub print_round-end-requires : goal.print_round-end-requires
-print_round-end-requires c = let l = c.loop-at in
+print_round-end-requires c =
+    let l = c.loop-at in
     let m = manager_of c.args.manager.plan l.areas l.devices l.ages l.wear in
     let r = c.round_change-change.ensures in
     record { at_in_bounds = omega (arith, c.if-out-end.false); sub_area_count_bound = λ z. round_shows m _ (memory_of l.image l.store) (sym (r.answer_value l.wear) ∙ z) _ (r.manager_value l.wear) }
@@ -116,7 +129,8 @@ pub loop-at-smaller : goal.loop-at-smaller
 loop-at-smaller c = omega (arith, c.loop-at-test.true, c.part_end-to.ensures.0)
 
 pub loop-at-preserved : goal.loop-at-preserved
-loop-at-preserved c = let l = c.loop-at in
+loop-at-preserved c =
+    let l = c.loop-at in
     let a = c.args in
     let m = manager_of a.manager.plan l.areas l.devices l.ages l.wear in
     let e = c.part_end-to in
@@ -135,9 +149,13 @@ loop-at-preserved c = let l = c.loop-at in
 
 pub returns : goal.returns
 unfolding played_lines
-returns c = let l = c.loop-at in
+returns c =
+    let l = c.loop-at in
     let a = c.args in
     let m = manager_of a.manager.plan l.areas l.devices l.ages l.wear in
-    let u : length a.input.now ≡ used_to l.at a.input.now = omega arith in record { used_after = ap (session_of m l.image l.store l.out l.end) u
+    let u : length a.input.now ≡ used_to l.at a.input.now = omega arith in record {
+      used_after = ap (session_of m l.image l.store l.out l.end) u
           ∙ ap (λ F. played_lines a.ends (length a.out.now) F (session_of m l.image l.store l.out l.end (used_to l.at a.input.now))) (sym (fields_past 10 a.input.now l.at (omega arith)))
-          ∙ l.invariant.5; written_in_bounds = (omega arith, omega arith) }
+          ∙ l.invariant.5;
+      written_in_bounds = (omega arith, omega arith);
+    }

@@ -2,5 +2,6 @@ use borrow.Author.Rules.{rules}
 use Rattle.interface.proofs.queries.JobInfoView.of.Goals as goal
 
 pub returns : goal.returns
-returns c = let j = c.job_info-asked.ensures in
+returns c =
+    let j = c.job_info-asked.ensures in
     rw (c.number-2.ensures, c.number.ensures, j.answer_value, j.info_value)

@@ -2,5 +2,6 @@ use borrow.Author.Rules.{rules}
 use Rattle.interface.proofs.queries.WearInfoView.of.Goals as goal
 
 pub returns : goal.returns
-returns c = let m = c.wear_info-asked.ensures in
+returns c =
+    let m = c.wear_info-asked.ensures in
     rw (c.number.ensures, m.answer_value, m.info_value)

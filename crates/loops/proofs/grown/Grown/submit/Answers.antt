@@ -3,5 +3,6 @@ use borrow.Author.Rules.{rules}
 use Rattle.loops.proofs.grown.Grown.submit.Goals as goal
 
 pub returns : goal.returns
-returns c = let r = c.job_change-change.ensures in
+returns c =
+    let r = c.job_change-change.ensures in
     record { answer_value = r.answer_value _; grown_value = (r.manager_value _, refl) }

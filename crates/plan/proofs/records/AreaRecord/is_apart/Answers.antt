@@ -1,4 +1,3 @@
-use borrow.Author.Rules.{rules}
 use Rattle.plan.proofs.records.AreaRecord.is_apart.Goals as goal
 
 pub returns : goal.returns

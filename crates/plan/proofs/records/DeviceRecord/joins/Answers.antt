@@ -1,5 +1,4 @@
 use borrow.Author.Tests.{eq-eqb, le-leb, lt-leb, ne_eqb}
-use borrow.Author.Rules.{rules}
 use Rattle.plan.proofs.records.DeviceRecord.joins.Goals as goal
 
 pub returns-then-self-due : goal.returns-then-self-due

@@ -1,5 +1,4 @@
 use Rattle.plan.specs.Records.{device_at}
-use borrow.Author.Rules.{rules}
 use Rattle.plan.proofs.records.DeviceRecord.read.Goals as goal
 
 pub returns : goal.returns

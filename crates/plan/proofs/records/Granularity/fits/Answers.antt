@@ -1,5 +1,4 @@
 use borrow.Author.Tests.{le-leb, lt-leb}
-use borrow.Author.Rules.{rules}
 use Rattle.plan.proofs.records.Granularity.fits.Goals as goal
 
 pub returns-then-self-lt1 : goal.returns-then-self-lt1

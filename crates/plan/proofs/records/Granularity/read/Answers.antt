@@ -1,5 +1,4 @@
 use Rattle.plan.specs.Records.{granularity_at}
-use borrow.Author.Rules.{rules}
 use Rattle.plan.proofs.records.Granularity.read.Goals as goal
 
 pub returns : goal.returns

@@ -1,5 +1,4 @@
 use Rattle.plan.specs.Records.{empty_plan}
-use borrow.Author.Rules.{rules}
 use Rattle.plan.proofs.records.Plan.empty.Goals as goal
 
 pub returns : goal.returns

@@ -1,5 +1,4 @@
 use borrow.Author.Tests.{le-leb, lt-leb}
-use borrow.Author.Rules.{rules}
 use Rattle.plan.proofs.records.SubAreaRecord.is_inside.Goals as goal
 
 pub returns-then-self-device : goal.returns-then-self-device

@@ -1,5 +1,4 @@
-use borrow.Author.Tests.{le-ltb, lt-ltb, not-false, not-true}
-use borrow.Author.Rules.{rules}
+use borrow.Author.Tests.{le-ltb, lt-ltb}
 use Rattle.plan.proofs.records.SubAreaRecord.is_placed.Goals as goal
 
 pub returns-then-area_count-self : goal.returns-then-area_count-self

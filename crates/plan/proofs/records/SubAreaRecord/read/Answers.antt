@@ -1,5 +1,4 @@
 use Rattle.plan.specs.Records.{sub_area_at}
-use borrow.Author.Rules.{rules}
 use Rattle.plan.proofs.records.SubAreaRecord.read.Goals as goal
 
 pub returns : goal.returns

@@ -1,5 +1,4 @@
-use borrow.Author.Tests.{le-leb, lt-leb, not-false, not-true}
-use borrow.Author.Rules.{rules}
+use borrow.Author.Tests.{le-leb, lt-leb}
 use Rattle.plan.proofs.records.SubAreaRecord.sizes_fit.Goals as goal
 
 pub returns-then-not-fits : goal.returns-then-not-fits

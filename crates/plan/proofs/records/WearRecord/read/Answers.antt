@@ -1,4 +1,3 @@
-use borrow.Author.Rules.{rules}
 use Rattle.plan.specs.Records.{wear_at}
 use Rattle.plan.proofs.records.WearRecord.read.Goals as goal
 
