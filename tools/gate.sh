@@ -20,17 +20,17 @@ end() {
 trap end EXIT
 trap 'exit 130' INT TERM HUP
 
-part() { # NAME COMMAND...
-    name=$1
+part() { # TITLE COMMAND...
+    title=$1
     shift
-    began=$(date +%s)
+    since=$(date +%s)
     if ! "$@"; then
-        echo "part FAILED: $name"
+        echo "part FAILED: $title"
         # rt ci's own verdict, where it is the one that failed
         if [ "$1" = proofs ]; then grep '^[0-9]* passed, [1-9][0-9]* failed$' "$room/ci"; fi
         exit 1
     fi
-    echo "part: $name, $(($(date +%s) - began)) s"
+    echo "part: $title, $(($(date +%s) - since)) s"
 }
 
 # rt ci's last line, the verdict, is held back until all else has passed too. It passes with edits that say nothing of a contract, the bad ones: this does not.
@@ -54,7 +54,7 @@ proofs() {
 # Whether every library in out/ is of this run: a crate that was checked before gets back what that left.
 made_by_ci() {
     for libraries in crates/*/out/rlib; do
-        if [ -e "$libraries/stamp" ] || [ ! "$libraries" -nt "$room/began" ]; then return 1; fi
+        if [ -e "$libraries/stamp" ] || [ -z "$(find "$libraries" -prune -newer "$room/began")" ]; then return 1; fi
     done
 }
 

@@ -8,7 +8,7 @@ over_libraries() { # COMMAND NAME FOLDER WORD...
     kit=$(dirname "$(rt doc)")
     for used in $(sed -n "s/#.*//; s/^$name\( staticlib\)\{0,1\}://p" crates.txt); do set -- "$@" --extern "$used=$PWD/crates/$used/out/rlib/$used.rlib"; done
     for libraries in crates/*/out/rlib; do set -- "$@" -L "dependency=$PWD/$libraries"; done
-    (cd "$folder" && "$kit/bin/rattle" "$rattle_command" --crate-name "$name" src/lib.rt --jobs "$(nproc)" --links "$name=" --extern "std=$kit/rlibs/std.rlib" \
+    (cd "$folder" && "$kit/bin/rattle" "$rattle_command" --crate-name "$name" src/lib.rt --jobs 2 --links "$name=" --extern "std=$kit/rlibs/std.rlib" \
         -L "dependency=$kit/rlibs" --antt-project "$kit/rattle/logic/antt-project.json" --logic-built "$kit/logic_built" "$@")
 }
 
