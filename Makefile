@@ -29,13 +29,13 @@ model:
 
 bench:
 	@sh tools/need.sh cargo
-	@sh tools/prove.sh --library interface timing
+	@sh tools/prove.sh interface timing
 	cargo run --offline --release --quiet --manifest-path model/Cargo.toml --features timing,session --bin bench
 
 # Sessions of ever new seeds on the library and on the model; a difference is made small and saved in model/differences.
 fuzz:
 	@sh tools/need.sh cargo
-	@sh tools/prove.sh --library interface
+	@sh tools/prove.sh interface
 	cargo run --offline --release --quiet --manifest-path model/Cargo.toml --features session --bin fuzz -- $(SECONDS) model/differences $(SEED)
 
 # The last line, 'N passed, 0 failed', is the verdict.

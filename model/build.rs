@@ -10,9 +10,9 @@ const LIBRARIES: [(&str, &str); 2] =
 fn main() {
     println!("cargo:rerun-if-changed=build.rs");
     let manifest_dir = env::var("CARGO_MANIFEST_DIR").expect("cargo sets CARGO_MANIFEST_DIR");
-    let folder = Path::new(&manifest_dir).join("../target/staticlib");
     for (feature, library) in LIBRARIES {
         if env::var_os(feature).is_some() {
+            let folder = Path::new(&manifest_dir).join(format!("../crates/{library}/out"));
             let archive = folder.join(format!("lib{library}.a"));
             println!("cargo:rustc-link-search=native={}", folder.display());
             println!("cargo:rustc-link-lib=static={library}");

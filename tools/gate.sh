@@ -4,53 +4,71 @@
 set -eu
 cd "$(dirname "$0")/.."
 sh tools/need.sh rt cargo
-# shellcheck source=tools/beside.sh
-. tools/beside.sh
+# shellcheck source=tools/made.sh
+. tools/made.sh
+# shellcheck source=tools/over-libraries.sh
+. tools/over-libraries.sh
+room=$(mktemp -d)
 
-part() { # NAME COMMAND...
-    name=$1
+# A library that rt ci left is of use to no command of rt, and would be put back by the next rt ci in the place of its own.
+end() {
+    rm -rf "$room"
+    for libraries in crates/*/out/rlib; do
+        if [ ! -e "$libraries/stamp" ]; then rm -rf "$libraries"; fi
+    done
+}
+trap end EXIT
+trap 'exit 130' INT TERM HUP
+
+part() { # TITLE COMMAND...
+    title=$1
     shift
-    began=$(date +%s)
+    since=$(date +%s)
     if ! "$@"; then
-        echo "part FAILED: $name"
+        echo "part FAILED: $title"
         # rt ci's own verdict, where it is the one that failed
-        if [ "$1" = proofs ] && [ -f "$room/verdict" ]; then cat "$room/verdict"; fi
+        if [ "$1" = proofs ]; then grep '^[0-9]* passed, [1-9][0-9]* failed$' "$room/ci"; fi
         exit 1
     fi
-    echo "part: $name, $(($(date +%s) - began)) s"
+    echo "part: $title, $(($(date +%s) - since)) s"
 }
 
-layout() { rt fmt --check && sh examples/recorded-plans.sh --check; }
-
-# rt ci's last line, the verdict, is held back until all else has passed too.
+# rt ci's last line, the verdict, is held back until all else has passed too. It passes with edits that say nothing of a contract, the bad ones: this does not.
 proofs() {
-    mkfifo "$room/lines"
-    setsid rt ci >"$room/lines" 2>&1 &
-    beside=-$!
-    while IFS= read -r line; do
-        case $line in
-        [0-9]*' passed, '*' failed') printf '%s\n' "$line" >"$room/verdict" ;;
-        *) printf '%s\n' "$line" ;;
-        esac
-    done <"$room/lines"
-    status=0
-    wait "${beside#-}" || status=$?
-    beside=''
-    [ "$status" -eq 0 ] && [ -f "$room/verdict" ]
+    sum=$(text_sum)
+    : >"$room/began"
+    { rt ci 2>&1 || : >"$room/failed"; } | tee "$room/ci" | grep --line-buffered -v '^[0-9]* passed, [0-9]* failed$'
+    if [ -e "$room/failed" ]; then return 1; fi
+    if ! grep -q '^rt: ok' "$room/ci"; then return 1; fi
+    if grep -q '^rt: ok.*, [0-9][0-9]* bad' "$room/ci"; then
+        echo "must-fail edits are bad, as told above"
+        return 1
+    fi
+    if [ "$(text_sum)" != "$sum" ]; then
+        echo "files of crates/ changed while they were proved"
+        return 1
+    fi
+    tail -n 1 "$room/ci" | grep '^[1-9][0-9]* passed, 0 failed$' >"$room/verdict"
 }
 
-# The model's own tests need none of the proofs: they run beside them, where a core often has nothing to do.
-begin_own_tests() {
-    cargo test --offline --release --quiet --manifest-path model/Cargo.toml >"$room/model" 2>&1 &
-    also_beside=$!
+# Whether every library in out/ is of this run: a crate that was checked before gets back what that left.
+made_by_ci() {
+    for libraries in crates/*/out/rlib; do
+        if [ -e "$libraries/stamp" ] || [ -z "$(find "$libraries" -prune -newer "$room/began")" ]; then return 1; fi
+    done
 }
 
-own_tests() {
-    tested=0
-    wait "$also_beside" || tested=$?
-    also_beside=''
-    cat "$room/model"
-    return "$tested"
+# rt ci proves the crates of the archives, and makes none.
+archives() {
+    by=rt
+    if made_by_ci; then by=rattle; fi
+    for name in interface timing; do
+        if [ "$by" = rattle ]; then build_archive "$name"; else (cd "crates/$name" && rt lib); fi >"$room/log" 2>&1 || {
+            cat "$room/log"
+            return 1
+        }
+    done
+    for name in bench audit interface timing; do note_made "$name" "$sum"; done
 }
 
 comparisons() {
@@ -58,14 +76,13 @@ comparisons() {
         --test proved_load --test proved_calls --test proved_session --test proved_queries --test proved_audit
 }
 
-echo "the gate: every proof, edit and test from nothing, in an estimated 25 min on two cores; each part says how long it took"
-part "layout and recorded plans" layout
-begin_own_tests
+echo "the gate: every proof, edit and test; each part says how long it took"
+part "recorded plans" sh examples/recorded-plans.sh --check
+part "the model's own tests" cargo test --offline --release --quiet --manifest-path model/Cargo.toml
 part "proofs and edits" proofs
+part "libraries" archives
 part "edits of several functions" sh tools/refused.sh
-part "the model's own tests, begun beside them" own_tests
 part "recorded runs and audits" sh tools/recorded-runs.sh
 part "pictures" sh tools/picture-check.sh
-part "libraries" sh tools/prove.sh --library interface timing
 part "the model compared with the libraries" comparisons
 cat "$room/verdict"

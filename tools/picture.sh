@@ -48,8 +48,8 @@ accepted_jobs() { # SESSION ANSWERS
 if [ $# -ne 3 ] || [ -z "$1" ] || [ -z "$2" ] || [ -z "$3" ]; then fail "three file names are needed: make picture PLAN=plan.bin SESSION=session.txt OUT=picture.svg"; fi
 export LC_ALL=C
 here=$(cd "$(dirname -- "$0")" && pwd)
-bench=${LUVDROG_BENCH:-${here%/*}/target/bin/bench}
-audit=${LUVDROG_AUDIT:-${here%/*}/target/bin/audit}
+bench=${LUVDROG_BENCH:-${here%/*}/crates/bench/out/bench}
+audit=${LUVDROG_AUDIT:-${here%/*}/crates/audit/out/audit}
 need_program "$bench"
 need_program "$audit"
 need_input plan "$1"

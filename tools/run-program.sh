@@ -1,7 +1,7 @@
 #!/bin/sh
 # run-program.sh PROGRAM PLAN INPUT: the bench or the audit program on a plan and its input, in a directory of its own.
 set -eu
-program=$(pwd)/target/bin/$1
+program=$(pwd)/crates/$1/out/$1
 work=$(mktemp -d)
 trap 'rm -rf "$work"' EXIT
 if [ -r "$2" ]; then cp "$2" "$work/plan.bin"; fi

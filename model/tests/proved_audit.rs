@@ -1,5 +1,5 @@
 //! The proved program `audit` against the model: all that it prints, byte by byte, on plans and jobs of every
-//! kind. It is expected in `../target/bin`.
+//! kind. It is expected in `../crates/audit/out`.
 #![cfg(feature = "session")]
 
 mod audits;
@@ -28,7 +28,7 @@ struct Program {
 impl Program {
     /// Fails if the program has not been made.
     fn new(name: &str) -> Program {
-        let file = Path::new(env!("CARGO_MANIFEST_DIR")).join("../target/bin/audit");
+        let file = Path::new(env!("CARGO_MANIFEST_DIR")).join("../crates/audit/out/audit");
         assert!(
             file.is_file(),
             "{file:?} is not there: it is made by proving the crate of the program"
