@@ -1,5 +1,5 @@
 -- document 01, "A printed session": what the bench prints, as values, with image and store carried from round to round
-use Rattle.std.specs.Prelude.{ℕ, zero, suc, ◌+◌, List, [], ◌∷◌, ◌++◌, eqb}
+use Rattle.std.specs.Prelude.{ℕ, zero, suc, List, [], ◌∷◌, ◌++◌, eqb}
 use Rattle.arith.specs.Cases.{pick}
 use Rattle.memory.specs.Numbers.{job_type_number}
 use Rattle.memory.specs.declared.DeviceAnswer.{DeviceAnswer}

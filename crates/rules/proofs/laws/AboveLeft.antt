@@ -12,7 +12,7 @@ use Rattle.rules.proofs.laws.Close.{closed}
 use Rattle.rules.specs.History.{Tally, no_tally, count}
 use Rattle.rules.proofs.laws.Laws.{Laws}
 use Rattle.rules.specs.Layout.{Layout}
-use Rattle.rules.specs.Machine.{Core, is_pending, need, own, above, wait_behind, wait_on, wait_of}
+use Rattle.rules.specs.Machine.{Core, is_pending, need, own, wait_behind, wait_on, wait_of}
 use Rattle.rules.proofs.laws.Potential.{to_come, by_behind, left_idle}
 use Rattle.rules.proofs.laws.Reachable.{Running, StateFits, Reachable, left_at, Passes, need_known}
 use Rattle.rules.proofs.laws.SecondHalf.{Served}

@@ -1,6 +1,6 @@
 -- Demand 1 holds in every reachable state.
 use Prim.Native.Nat.{ℕ, zero, suc, ◌+◌, ◌-◌, ◌≤◌, ◌<◌}
-use Rattle.std.specs.Prelude.{false, List, ◌≢◌, ◌≡◌, refl, eqb, length}
+use Rattle.std.specs.Prelude.{false, List, ◌≢◌, ◌≡◌, refl, eqb}
 use Rattle.std.proofs.Common.{true≢false, ap, ◌∙◌, le_refl, arith, ne_eqb}
 use Rattle.std.proofs.Math.Path.{sym, subst}
 use Rattle.std.proofs.Math.ListN.{get_or}

@@ -15,7 +15,8 @@ use Rattle.state.specs.declared.DeviceState.TheVariants.{Free, Runs, LockedFor}
 use Rattle.state.specs.declared.Suspended.{Suspended}
 use Rattle.state.specs.declared.Suspended.TheVariants as Kept
 use Rattle.rules.specs.Admission.{round_number, admits}
-use Rattle.rules.proofs.laws.Best.{ready_plain, NotBelow, Ready, best_not_below, best_ready}
+use Rattle.rules.proofs.laws.Best.{ready_plain, NotBelow, Ready, best_ready}
+use Rattle.rules.proofs.laws.BestAbove.{best_not_below}
 use Rattle.rules.proofs.laws.Laws.{Laws}
 use Rattle.rules.specs.History.{round, History, round_of, step}
 use Rattle.rules.specs.Layout.{Layout, layout_at}

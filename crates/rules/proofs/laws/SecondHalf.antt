@@ -1,5 +1,5 @@
 -- The second half of a round, device by device.
-use Rattle.std.specs.Prelude.{ℕ, zero, suc, ◌+◌, ◌-◌, ◌≤◌, ◌<◌, Bool, ◌&&◌, ◌≡◌, eqb}
+use Rattle.std.specs.Prelude.{ℕ, suc, ◌+◌, ◌-◌, ◌≤◌, ◌<◌, Bool, ◌&&◌, ◌≡◌, eqb}
 use Rattle.std.proofs.Math.Bool.{true, false}
 use Rattle.std.proofs.Common.{true≢false, sym, ap, ◌∙◌, arith, lt-ltb, eq-eqb, ne_eqb}
 use Rattle.std.proofs.lemmas.Bool.{false≢true}
@@ -7,7 +7,7 @@ use Rattle.std.proofs.Math.Path.{refl}
 use Rattle.arith.specs.Cases.{pick, and_elim, or_left, or_right, or_elim}
 use Rattle.memory.specs.declared.JobType.{JobType}
 use Rattle.memory.specs.declared.JobType.TheVariants as Types
-use Rattle.rules.proofs.laws.FirstHalf.{PolledOn}
+use Rattle.rules.proofs.laws.Polls.{PolledOn}
 use Rattle.arith.specs.Bounded.{below_suc}
 use Rattle.arith.specs.Parts.{upd, upd_same, upd_case}
 use Rattle.memory.specs.declared.Task.{Task}
@@ -18,14 +18,15 @@ use Rattle.state.specs.declared.DeviceState.TheVariants.{Free, Runs, LockedFor}
 use Rattle.state.specs.declared.Job.{Job}
 use Rattle.state.specs.declared.Suspended.{Suspended}
 use Rattle.state.specs.declared.Suspended.TheVariants as Kept
-use Rattle.rules.proofs.laws.Best.{ready_plain, NotBelow, Ready, best_not_below, best_ready}
+use Rattle.rules.proofs.laws.Best.{ready_plain, NotBelow, Ready, best_ready}
+use Rattle.rules.proofs.laws.BestAbove.{best_not_below}
 use Rattle.rules.proofs.laws.Laws.{Laws}
 use Rattle.rules.specs.Layout.{Layout}
 use Rattle.rules.specs.Machine as Machine
 use Rattle.rules.specs.Machine.{Core, doing, set_state, set_both, set_device, is_pending, need, ended, none, wait_behind, displaces, erase_or, erase_or_choice, start_over}
 use Rattle.rules.specs.Machine.{ready, Choice, best, start_job, start_choice, start_on, start_device, second_half}
 use Rattle.rules.proofs.laws.Potential.{AtMost, due_left, if_below, by_behind}
-use Rattle.rules.proofs.laws.Reachable.{Running, Suspending, DeviceFits, Reachable, Passes, passed, passes_on}
+use Rattle.rules.proofs.laws.Reachable.{Running, Suspending, DeviceFits, Reachable, Passes}
 use Rattle.rules.proofs.laws.Turns.{NoWorse, NoWorseOn, state_no_worse, ended_follows, same_passes, Turn, device_passes, both_passes}
 
 -- what displaces an erase is no erase, and no lock request
@@ -233,7 +234,7 @@ module _ (p : Layout) (admits : ℕ → Task → Bool) (L : Laws p admits) (n : 
         k = ended 0 (c.jobs b)
 
   -- device n picks, if it is free
-  starts : Started p admits p.devices (suc n) c (start_device p n c)
+  pub starts : Started p admits p.devices (suc n) c (start_device p n c)
   unfolding start_device
   starts = go (c.devices n).state (c.devices n).suspended refl refl
     where
@@ -289,15 +290,3 @@ module _ (p : Layout) (admits : ℕ → Task → Bool) (L : Laws p admits) (n : 
       go (LockedFor b) s e u = start_none (λ a i k. rw e tt)
       go (Runs b q) Kept.Nothing e u = over b q e u (p.suspends n && is_erase (c.jobs b).task.kind) refl
       go (Runs b q) (Kept.Erase a k) e u = start_none (λ i j l. rw e tt)
-
--- the devices below n pick
-pub second_half_lem : (p : Layout) (admits : ℕ → Task → Bool) (L : Laws p admits) (c : Core) → Reachable p admits c →
-    ((d : ℕ) → d < p.devices → PolledOn (c.devices d).state) → (n : ℕ) → n ≤ p.devices →
-    Started p admits p.devices n c (second_half p n c)
-unfolding second_half
-second_half_lem p admits L c r polled zero h =
-    record { passes = same_passes p admits p.devices c r; served = λ a i l. absurd (omega arith); polled = λ d _. polled d }
-second_half_lem p admits L c r polled (suc n) h =
-    let i = second_half_lem p admits L c r polled n (omega arith) in
-    let s = starts p admits L n h (second_half p n c) (passed r i.passes) i.served i.polled in
-    record { passes = passes_on i.passes s.passes; served = s.served; polled = s.polled }

@@ -1,5 +1,5 @@
 -- Sums and tests, compared.
-use Rattle.std.specs.Prelude.{ℕ, zero, suc, ◌+◌, ◌≤◌, ◌<◌, Bool, true, false, ◌≡◌, eqb}
+use Rattle.std.specs.Prelude.{ℕ, zero, suc, ◌+◌, ◌≤◌, ◌<◌, Bool, true, false, eqb}
 use Rattle.std.proofs.Common.{subst, arith}
 use Rattle.arith.specs.Bounded.{sum, below_suc}
 use Rattle.arith.specs.Cases.{pick, by_eqb}
