@@ -7,7 +7,8 @@ use Rattle.rules.specs.Machine.{Core, second_half}
 use Rattle.rules.proofs.laws.Polls.{PolledOn}
 use Rattle.rules.proofs.laws.Laws.{Laws}
 use Rattle.rules.proofs.laws.Reachable.{Reachable, passed, passes_on}
-use Rattle.rules.proofs.laws.SecondHalf.{Started, starts}
+use Rattle.rules.proofs.laws.Suspends.{Started}
+use Rattle.rules.proofs.laws.SecondHalf.{starts}
 use Rattle.rules.proofs.laws.Turns.{same_passes}
 
 -- the devices below n pick
