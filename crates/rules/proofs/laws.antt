@@ -6,9 +6,14 @@ pub mod Potential
 pub mod Reachable
 pub mod Turns
 pub mod RequestEnd
+pub mod FewLeft
+pub mod Polls
 pub mod FirstHalf
 pub mod Best
+pub mod BestAbove
+pub mod Suspends
 pub mod SecondHalf
+pub mod AllPicked
 pub mod RoundCore
 pub mod Close
 pub mod Admitted
@@ -43,6 +48,7 @@ pub mod EraseLaws
 pub mod SumLaws
 pub mod AboveLeft
 pub mod AboveFits
+pub mod RanksMay
 pub mod AboveJobs
 pub mod LockedNone
 pub mod Demands

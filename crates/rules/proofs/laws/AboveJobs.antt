@@ -1,7 +1,7 @@
 -- The bound on above is at most what the accepted jobs add to it, and these add no more than the jobs that they are taken from.
 use Rattle.std.specs.Prelude.{ℕ, ◌+◌, ◌≤◌, true, false, ◌&&◌, ◌≡◌, refl, eqb}
 use mathlib.Core.List.{List, [], ◌∷◌, ◌++◌}
-use Rattle.std.proofs.Common.{sym, subst, arith, lt-ltb, le-leb}
+use Rattle.std.proofs.Common.{sym, subst, arith, lt-ltb}
 use Rattle.std.proofs.Math.Nat.{le_refl}
 use Rattle.arith.specs.Bounded.{sum, sum_bound}
 use Rattle.arith.specs.Cases.{pick, by_bool, by_eqb}
@@ -13,13 +13,13 @@ use Rattle.plan.specs.declared.records.Plan.{Plan}
 use Rattle.segment.specs.Segments.{own_bound}
 use Rattle.rules.specs.Admission.{job_number, release_number, cancel_number, round_number, admits}
 use Rattle.rules.specs.History.{Call, submit, releases, cancels, asks, round, History, fresh_history, round_of, submitted, step}
-use Rattle.rules.specs.Layout.{Layout, layout_of, layout_at, priority_of}
+use Rattle.rules.specs.Layout.{Layout, layout_of, layout_at}
 use Rattle.rules.specs.Machine.{Core, is_pending, begun, begin}
 use Rattle.rules.specs.Memory.{Memory}
-use Rattle.rules.specs.Ranks.{ranks_above}
 use Rattle.rules.proofs.laws.Admitted.{job_admitted}
 use Rattle.rules.proofs.laws.Laws.{Laws}
-use Rattle.rules.proofs.laws.RankLaws.{AgesApart, ranks_plain}
+use Rattle.rules.proofs.laws.RankLaws.{AgesApart}
+use Rattle.rules.proofs.laws.RanksMay.{ranks_may}
 use Rattle.rules.proofs.laws.Reachable.{Passes}
 use Rattle.rules.proofs.laws.Runs.{HistoryFits, round_started, released, cancelled, step_fits, start_fits}
 use Rattle.rules.proofs.laws.SumLaws.{sum_less, sum_more_one, pick_less, pick_none, pick_most}
@@ -50,14 +50,6 @@ may_most p c a b = let t = (c.jobs b).task in pick (may_rank_above p b a) (pick 
 -- of all areas
 abbrev all_may_most : Plan → Core → ℕ → ℕ
 all_may_most p c a = sum (may_most p c a) p.area_count
-
--- what ranks above can
-ranks_may : (p : Plan) (ages : ℕ → ℕ) (a b : ℕ) → ranks_above (priority_of p) ages b a ≡ true → may_rank_above p b a ≡ true
-ranks_may p ages a b h =
-    let k = (ranks_plain (priority_of p) ages b a).0 h in
-    by_eqb b a
-    (λ _ q. absurd (let m = rw q at k.1 in let n = m refl in omega arith))
-    (λ e _. rw (e, le-leb (priority_of p a) (priority_of p b) (omega (arith, k.0))))
 
 -- what is ahead of area a is among them
 ahead_may : (p : Plan) (h : History) (a b : ℕ) → ahead_most p h b a ≤ may_most p h.core a b

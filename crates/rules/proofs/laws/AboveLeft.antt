@@ -15,7 +15,7 @@ use Rattle.rules.specs.Layout.{Layout}
 use Rattle.rules.specs.Machine.{Core, is_pending, need, own, wait_behind, wait_on, wait_of}
 use Rattle.rules.proofs.laws.Potential.{to_come, by_behind, left_idle}
 use Rattle.rules.proofs.laws.Reachable.{Running, StateFits, Reachable, left_at, Passes, need_known}
-use Rattle.rules.proofs.laws.SecondHalf.{Served}
+use Rattle.rules.proofs.laws.Suspends.{Served}
 use Rattle.rules.proofs.laws.SumLaws.{sum_less, sum_less_one, pick_less}
 
 -- what is left to own of area b's job, if it ranks above area a's, in a round in which the devices below n have answered

@@ -1,10 +1,9 @@
 -- The area that a free device picks.
-use Prim.Native.Nat.{ℕ, zero, suc, ◌<◌}
+use Prim.Native.Nat.{ℕ, zero, suc}
 use Rattle.std.specs.Prelude.{Bool, true, false, ◌↔◌, ◌≡◌}
-use Rattle.std.proofs.Common.{true≢false, sym, ap, ◌∙◌, arith}
+use Rattle.std.proofs.Common.{sym}
 use Rattle.std.proofs.Math.Logic.Iff
 use Rattle.std.proofs.Math.Path.{refl}
-use Rattle.arith.specs.Bounded.{below_suc}
 use Rattle.arith.specs.Cases.{pick, by_bool, by_eqb}
 use Rattle.arith.specs.Plain.{plain}
 use Rattle.memory.specs.declared.Task.{Task}
@@ -29,7 +28,7 @@ Ready p c d (area b) = ready p c d b ≡ true
 
 module _ (p : Layout) (admits : ℕ → Task → Bool) (L : Laws p admits) where
   -- the better of area n and a choice is not below n
-  better_not_below : (n : ℕ) (x : Choice) → NotBelow p (better p n x) n
+  pub better_not_below : (n : ℕ) (x : Choice) → NotBelow p (better p n x) n
   better_not_below n nobody = λ f. absurd (f refl)
   better_not_below n (area b) = go (p.outranks n b) refl
     where
@@ -38,27 +37,13 @@ module _ (p : Layout) (admits : ℕ → Task → Bool) (L : Laws p admits) where
       go false e = λ f. L.ranks_differ n b (λ g. f (sym g)) e
 
   -- nor below any area that the choice is not below
-  better_keeps : (n a : ℕ) (x : Choice) → NotBelow p x a → NotBelow p (better p n x) a
+  pub better_keeps : (n a : ℕ) (x : Choice) → NotBelow p x a → NotBelow p (better p n x) a
   better_keeps n a nobody h = absurd h
   better_keeps n a (area b) h = go (p.outranks n b) refl
     where
       go : (t : Bool) → p.outranks n b ≡ t → NotBelow p (pick t (area n) (area b)) a
       go true e = λ _. by_eqb b a (λ _ g. rw (← g) e) (λ _ g. L.ranks_chain n b a e (h g))
       go false e = h
-
-  module _ (c : Core) (d : ℕ) where
-    -- the choice among the areas before n is not below any of them that is ready
-    pub best_not_below : (n a : ℕ) → a < n → ready p c d a ≡ true → NotBelow p (best p c d n) a
-    unfolding best
-    best_not_below zero a l r = absurd (omega arith)
-    best_not_below (suc n) a l r = go (ready p c d n) refl (λ k. best_not_below n a k r)
-      where
-        x : Choice
-        x = best p c d n
-
-        go : (t : Bool) → ready p c d n ≡ t → (a < n → NotBelow p x a) → NotBelow p (pick t (better p n x) x) a
-        go true e h = below_suc a n l (λ g. rw g (better_not_below n x)) (λ k. better_keeps n a x (h k))
-        go false e h = below_suc a n l (λ g. absurd (true≢false (sym r ∙ ap (ready p c d) g ∙ e))) h
 
 -- the choice among the areas before n is ready
 pub best_ready : (p : Layout) (c : Core) (d n : ℕ) → Ready p c d (best p c d n)

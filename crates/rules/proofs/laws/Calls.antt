@@ -16,7 +16,8 @@ use Rattle.state.specs.declared.DeviceState.TheVariants.{Free, Runs, LockedFor}
 use Rattle.state.specs.declared.Job.{Job}
 use Rattle.state.specs.declared.Suspended.TheVariants as Kept
 use Rattle.rules.proofs.laws.Close.{bounds_of, TallyFits, tally_stays}
-use Rattle.rules.proofs.laws.FirstHalf.{closes_few, low_few}
+use Rattle.rules.proofs.laws.FewLeft.{low_few}
+use Rattle.rules.proofs.laws.FirstHalf.{closes_few}
 use Rattle.rules.specs.History.{Tally, no_tally}
 use Rattle.rules.proofs.laws.Laws.{Laws}
 use Rattle.rules.specs.Layout.{Layout, most_below}

@@ -15,7 +15,8 @@ use Rattle.rules.specs.Layout.{Layout, most_below}
 use Rattle.rules.specs.Machine.{Core, is_pending, need, Verdict, first_half, second_half, Wait, own, above, below, locked, none, wait_on, wait_of}
 use Rattle.rules.proofs.laws.Potential.{Left, AtMost, to_come, due_left, try_left, low_left, limit_of, later_left, left_by, left_of, by_behind, left_idle}
 use Rattle.rules.proofs.laws.Reachable.{StateFits, DeviceFits, Reachable, left_at, FollowsAt, need_known, passed, passes_on}
-use Rattle.rules.proofs.laws.SecondHalf.{Busy, Started, second_half_lem}
+use Rattle.rules.proofs.laws.AllPicked.{second_half_lem}
+use Rattle.rules.proofs.laws.Suspends.{Busy, Started}
 
 -- the rounds of a job: its waits, "and one more if a round ended it"
 abbrev pub waited : Tally → ℕ

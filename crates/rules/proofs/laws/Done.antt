@@ -16,8 +16,7 @@ use Rattle.segment.specs.Segments.{is_lock, segment_at, segments_from}
 use Rattle.segment.specs.declared.Segment.{Segment}
 use Rattle.state.specs.declared.Job.{Job}
 use Rattle.rules.specs.Layout.{layout_of}
-use Rattle.rules.specs.Machine.{is_pending, is_cancelling, due, begun, ended, cancelled, moved, Verdict, goes_on, finished, differs, failed, after_failed, job_failed, after_finished, job_finished, after_differs, job_differs}
-use Rattle.rules.proofs.laws.StepLaws.{job_taken, done_taken}
+use Rattle.rules.specs.Machine.{is_pending, is_cancelling, due, begun, ended, cancelled, moved, after_failed, job_failed, after_finished, job_finished, after_differs, job_differs}
 
 -- Area a's latest job j, with its requests that were done
 pub record DoneFits (p : Plan) (a : ℕ) (j : Job) (done : List Segment) : Type 0 where
@@ -53,7 +52,7 @@ module _ (p : Plan) (a : ℕ) where
       record { cut = f.cut; joined_is = f.joined_is; listed_is = f.listed_is; admitted = f.admitted; more = λ _. f.more h; complete = λ e. absurd (true≢false e) }
 
   -- a request that fails
-  failed_fits : {j : Job} {l : List Segment} → DoneFits p a j l → DoneFits p a (job_failed j) l
+  pub failed_fits : {j : Job} {l : List Segment} → DoneFits p a j l → DoneFits p a (job_failed j) l
   unfolding job_failed
   failed_fits {j} {l} f = go (is_cancelling j.status) (eqb j.retries_left 0)
     where
@@ -63,7 +62,7 @@ module _ (p : Plan) (a : ℕ) where
       go false false = record { cut = f.cut; joined_is = f.joined_is; listed_is = f.listed_is; admitted = f.admitted; more = f.more; complete = f.complete }
 
   -- a request that is done, with a byte that differs
-  differs_fits : {j : Job} {l : List Segment} → DoneFits p a j l → DoneFits p a (job_differs j) l
+  pub differs_fits : {j : Job} {l : List Segment} → DoneFits p a j l → DoneFits p a (job_differs j) l
   unfolding job_differs
   differs_fits {j} {l} f = go (is_cancelling j.status)
     where
@@ -72,7 +71,7 @@ module _ (p : Plan) (a : ℕ) where
       go false = ended_fits 2 (λ e. absurd (omega arith)) f
 
   -- a request that is done: its bytes come behind the others
-  finished_fits : WellFormed p → {j : Job} {l : List Segment} → is_pending j ≡ true → DoneFits p a j l →
+  pub finished_fits : WellFormed p → {j : Job} {l : List Segment} → is_pending j ≡ true → DoneFits p a j l →
       DoneFits p a (job_finished (layout_of p) a j) (l ++ (due (layout_of p) a j ∷ []))
   unfolding job_finished layout_of
   finished_fits w {j} {l} h f = go (is_cancelling j.status) (leb j.task.length x) refl
@@ -121,12 +120,3 @@ module _ (p : Plan) (a : ℕ) where
             more = λ _. leb-false _ _ e;
             complete = λ e. absurd (true≢false (sym h ∙ e));
           }
-
-  -- a request takes its answer
-  pub taken_fits : WellFormed p → (v : Verdict) (t : Bool) {j : Job} {l : List Segment} → is_pending j ≡ true → DoneFits p a j l →
-      DoneFits p a (job_taken (layout_of p) a v t j) (done_taken v (due (layout_of p) a j) l)
-  taken_fits w goes_on true h f = f
-  taken_fits w goes_on false h f = failed_fits f
-  taken_fits w finished t h f = finished_fits w h f
-  taken_fits w differs t h f = differs_fits f
-  taken_fits w failed t h f = failed_fits f

@@ -22,13 +22,22 @@ use Rattle.rules.proofs.laws.Admitted.{job_admitted, cancel_admitted}
 use Rattle.rules.specs.Admission.{admits, job_number, release_number, cancel_number, round_number}
 use Rattle.rules.specs.History.{Call, submit, releases, cancels, asks, round, History, lent, fresh_history, round_of, submitted, step, run}
 use Rattle.rules.specs.Layout.{layout_of, layout_at}
-use Rattle.rules.specs.Machine.{Core, is_pending, begun, need, holds, second_half, cancel_if, cancel, begin, release}
+use Rattle.rules.specs.Machine.{Core, Verdict, goes_on, finished, differs, failed, is_pending, begun, due, need, holds, second_half, cancel_if, cancel, begin, release}
 use Rattle.rules.proofs.laws.PlanLaws.{admitted}
 use Rattle.rules.proofs.laws.Reachable.{Reachable}
 use Rattle.rules.proofs.laws.Requests.{running_on}
 use Rattle.rules.specs.Round.{Half, answer_for, verdict_on, take_all, round_halves}
-use Rattle.rules.proofs.laws.StepLaws.{take_case, untouched, start_case, accept_case}
-use Rattle.rules.proofs.laws.Done.{DoneFits, begun_fits, ended_fits, cancelled_fits, taken_fits}
+use Rattle.rules.proofs.laws.StepLaws.{job_taken, done_taken, take_case, untouched, start_case, accept_case}
+use Rattle.rules.proofs.laws.Done.{DoneFits, begun_fits, ended_fits, cancelled_fits, failed_fits, finished_fits, differs_fits}
+
+-- a request takes its answer
+taken_fits : (p : Plan) (a : ℕ) → WellFormed p → (v : Verdict) (t : Bool) {j : Job} {l : List Segment} → is_pending j ≡ true → DoneFits p a j l →
+    DoneFits p a (job_taken (layout_of p) a v t j) (done_taken v (due (layout_of p) a j) l)
+taken_fits p a w goes_on true h f = f
+taken_fits p a w goes_on false h f = failed_fits p a f
+taken_fits p a w finished t h f = finished_fits p a w h f
+taken_fits p a w differs t h f = differs_fits p a f
+taken_fits p a w failed t h f = failed_fits p a f
 
 -- of every area
 abbrev pub AllFit : Plan → (ℕ → Job) → (ℕ → List Segment) → Type 0

@@ -1,67 +1,34 @@
 -- The first half of a round, device by device.
 use Rattle.std.specs.Prelude.{ℕ, zero, suc, ◌+◌, ◌-◌, ◌≤◌, ◌<◌, Bool, true, false, ◌≡◌, ltb, eqb}
 use Rattle.std.proofs.lemmas.Bool.{false≢true}
-use Rattle.std.proofs.Common.{true≢false, sym, ap, subst, ◌∙◌, le_refl, arith, ltb-true, lt-ltb, le-ltb, eqb-true, eq-eqb}
+use Rattle.std.proofs.Common.{true≢false, sym, ap, subst, ◌∙◌, le_refl, arith, ltb-true, eqb-true, eq-eqb}
 use Rattle.std.proofs.Math.Path.{refl}
 use Rattle.arith.specs.Bounded.{below_suc}
-use Rattle.arith.specs.Cases.{pick, by_bool, by_ltb, by_eqb}
+use Rattle.arith.specs.Cases.{pick, by_ltb, by_eqb}
 use Rattle.arith.specs.Parts.{upd, upd_same, upd_other, upd_case}
 use Rattle.memory.specs.declared.Task.{Task}
-use Rattle.segment.specs.Segments.{span_most}
 use Rattle.state.specs.declared.Device.{Device}
 use Rattle.state.specs.declared.DeviceState.{DeviceState}
 use Rattle.state.specs.declared.DeviceState.TheVariants.{Free, Runs, LockedFor}
 use Rattle.state.specs.declared.Job.{Job}
 use Rattle.state.specs.declared.Suspended.{Suspended}
 use Rattle.state.specs.declared.Suspended.TheVariants as Kept
+use Rattle.rules.proofs.laws.FewLeft.{low_few}
 use Rattle.rules.proofs.laws.Laws.{Laws}
+use Rattle.rules.proofs.laws.Polls.{PolledOn, Taken, first_turn, take_poll}
 use Rattle.rules.specs.Layout.{Layout, most_below}
 use Rattle.rules.specs.Machine as Machine
 use Rattle.rules.specs.Machine.{Core, doing, set_state, set_both, need, kept_for, Verdict, take_running, take_on, take_answer, first_half, wait_behind}
-use Rattle.rules.proofs.laws.Potential.{AtMost, to_come, closes_on, if_below, low_left, later_left, left_of, by_behind, later_left_lem}
-use Rattle.rules.proofs.laws.Reachable.{Running, SuspendedFits, Apart, JobFits, Reachable, FollowsAt, Passes, passed, passes_on}
+use Rattle.rules.proofs.laws.Potential.{AtMost, to_come, closes_on, low_left, later_left, left_of, by_behind, later_left_lem}
+use Rattle.rules.proofs.laws.Reachable.{Running, Apart, JobFits, Reachable, FollowsAt, passed, passes_on}
 use Rattle.rules.proofs.laws.RequestEnd.{Settled, failed_settled, finished_settled, differs_settled}
-use Rattle.rules.proofs.laws.Turns.{NoWorse, same_no_worse, state_no_worse, device_no_worse, suspended_keeps, same_passes, Turn, none_passes, device_passes, both_passes}
-
--- a request that has given this round's answer and runs on has a poll
-abbrev pub PolledOn : DeviceState → Type 0
-PolledOn Free = Unit {0}
-PolledOn (LockedFor a) = Unit {0}
-PolledOn (Runs a polls) = 1 ≤ polls
-
--- from core c, where the devices below n have given this round's answer, to core e, where those below m have
-pub record Taken (p : Layout) (admits : ℕ → Task → Bool) (n m : ℕ) (c e : Core) : Type 0 where
-  pub passes : Passes p admits n m c e
-  pub polled : (d : ℕ) → d < m → PolledOn (e.devices d).state
+use Rattle.rules.proofs.laws.Turns.{NoWorse, state_no_worse, device_no_worse, suspended_keeps, same_passes, none_passes, both_passes}
 
 -- before its answer of this round, and after it with a poll, a request sees fewer closes than the limit
 pub closes_few : (n d limit : ℕ) (x : DeviceState) → (d < n → PolledOn x) → closes_on (to_come n d) limit x ≤ limit - 1
 closes_few n d limit Free h = omega arith
 closes_few n d limit (LockedFor a) h = omega arith
 closes_few n d limit (Runs a q) h = by_ltb d n (λ e l. rw e (omega (arith, h l))) (λ e l. rw e (omega arith))
-
--- a suspended erase has a poll
-pub low_few : (p : Layout) (jobs : ℕ → Job) (d a : ℕ) (s : Suspended) → SuspendedFits p jobs d s →
-    (p.limit d - 1) + low_left p a (p.limit d) s ≤ most_below p d
-low_few p jobs d a Kept.Nothing f = by_bool (p.suspends d) (λ e. rw e (omega arith)) (λ e. rw e (omega arith))
-low_few p jobs d a (Kept.Erase b q) f =
-    rw f.can
-    (by_behind (λ w. (p.limit d - 1) + if_below w (p.limit d - q) ≤ span_most true (p.limit d)) p a b
-    (λ _. omega arith)
-    (λ _ _. omega arith)
-    (λ _ _. let h = f.polled in omega arith))
-
--- device n gives its answer
-first_turn : (n : ℕ) → Turn n (suc n) n 1 0
-first_turn n =
-    record {
-      before = rw (le-ltb n n (le_refl n));
-      after = rw (lt-ltb n (suc n) (le_refl _));
-      others = λ k h.
-          by_ltb k n
-          (λ e f. rw (e, lt-ltb k (suc n) (omega arith)))
-          (λ e f. rw (e, le-ltb k (suc n) (omega arith)));
-    }
 
 -- another area's request ends
 end_no_worse : (p : Layout) (limit a b m : ℕ) → (b ≡ a → ⊥) → NoWorse limit (wait_behind p a b) Machine.none m 0
@@ -87,29 +54,10 @@ module _ (p : Layout) (admits : ℕ → Task → Bool) (n : ℕ) (c : Core) (r :
     runs : Running p n b q (c.jobs b)
     runs = rw e at (r.devices n).state
 
-    -- what runs on is still not what is suspended
-    polled_apart : (s : Suspended) → Apart (Runs b q) s → Apart (Runs b (q + 1)) s
-    polled_apart Kept.Nothing h = tt
-    polled_apart (Kept.Erase a k) h = h
-
     -- nor is its job that of what is suspended
     not_kept : (s : Suspended) → Apart (Runs b q) s → (k : ℕ) → s ≡ Kept.Erase b k → ⊥
     not_kept Kept.Nothing h k g = absurd (true≢false (sym (ap (kept_for b) g ∙ eq-eqb b b refl)))
     not_kept (Kept.Erase a l) h k g = h (sym (eqb-true a b (ap (kept_for b) g ∙ eq-eqb b b refl)))
-
-    -- "Pending adds 1 to the request's polls"
-    take_poll : q + 1 < p.limit n → Taken p admits n (suc n) c (set_state n (Runs b (q + 1)) c)
-    take_poll l =
-        record {
-          passes = device_passes p admits (first_turn n) c r (doing (Runs b (q + 1)) (c.devices n))
-              (record {
-                state = record { pending = runs.pending; no_lock = runs.no_lock; needed = runs.needed; few = l };
-                suspended = (r.devices n).suspended;
-                apart = polled_apart (c.devices n).suspended (rw e at (r.devices n).apart);
-              })
-              (λ a _ _. state_no_worse p a (p.limit n) 1 0 (c.devices n) (Runs b (q + 1)) (rw e (same_no_worse _ (wait_behind p a b) _ _ (omega arith))));
-          polled = λ d h. upd_case (λ x. PolledOn x.state) c.devices n d _ (λ _. omega arith) (λ f. polled d (omega arith));
-        }
 
     -- the request ends
     take_end : (k : Job) → Settled p admits b (c.jobs b) k → Taken p admits n (suc n) c (set_both b k n Free c)
@@ -172,7 +120,7 @@ module _ (p : Layout) (admits : ℕ → Task → Bool) (n : ℕ) (c : Core) (r :
         f = r.jobs b runs.pending
 
         go : (v : Verdict) (t : Bool) → ltb (q + 1) (p.limit n) ≡ t → Taken p admits n (suc n) c (take_running p n b q v t c)
-        go Machine.goes_on true l = take_poll (ltb-true (q + 1) (p.limit n) l)
+        go Machine.goes_on true l = take_poll p admits n c r polled b q e (ltb-true (q + 1) (p.limit n) l)
         go Machine.goes_on false l = take_end _ (failed_settled p admits L b (c.jobs b) f)
         go Machine.finished t l = take_end _ (finished_settled p admits L b (c.jobs b) f)
         go Machine.differs t l = take_end _ (differs_settled p admits L b (c.jobs b) f)

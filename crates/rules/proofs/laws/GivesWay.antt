@@ -15,7 +15,8 @@ use Rattle.state.specs.declared.DeviceState.TheVariants.{Free, Runs, LockedFor}
 use Rattle.state.specs.declared.Suspended.{Suspended}
 use Rattle.state.specs.declared.Suspended.TheVariants as Kept
 use Rattle.rules.specs.Admission.{round_number, admits}
-use Rattle.rules.proofs.laws.Best.{ready_plain, NotBelow, Ready, best_not_below, best_ready}
+use Rattle.rules.proofs.laws.Best.{ready_plain, NotBelow, Ready, best_ready}
+use Rattle.rules.proofs.laws.BestAbove.{best_not_below}
 use Rattle.rules.proofs.laws.Laws.{Laws}
 use Rattle.rules.specs.History.{round, History, round_of, step}
 use Rattle.rules.specs.Layout.{Layout, layout_at}
@@ -25,7 +26,7 @@ use Rattle.rules.proofs.laws.RankLaws.{AgesApart}
 use Rattle.rules.proofs.laws.Reachable.{Reachable}
 use Rattle.rules.specs.Round.{round_halves}
 use Rattle.rules.proofs.laws.Runs.{HistoryFits, picks_reachable}
-use Rattle.rules.proofs.laws.SecondHalf.{kinds}
+use Rattle.rules.proofs.laws.Suspends.{kinds}
 use Rattle.rules.specs.statements.Moments.{moment_of}
 use Rattle.rules.specs.statements.Order.{Highest, Picks, ready_beside, Qualifies, Erasing, running, suspended, GivesWay}
 use Rattle.rules.specs.statements.Statements.{answered_core, FirstCome}

@@ -23,7 +23,7 @@ use Rattle.rules.proofs.laws.RankLaws.{AgesApart}
 use Rattle.rules.proofs.laws.Ranked.{reranked}
 use Rattle.rules.proofs.laws.Reachable.{Reachable, need_known, passed}
 use Rattle.rules.proofs.laws.Runs.{HistoryFits, round_started}
-use Rattle.rules.proofs.laws.SecondHalf.{Busy}
+use Rattle.rules.proofs.laws.Suspends.{Busy}
 use Rattle.rules.proofs.laws.StepLaws.{take_leaves, untouched}
 use Rattle.rules.specs.statements.Jobs.{is_over, agrees_due}
 use Rattle.rules.specs.statements.Moments.{moment_of}

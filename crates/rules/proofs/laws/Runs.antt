@@ -25,7 +25,8 @@ use Rattle.rules.proofs.laws.Potential.{left_idle}
 use Rattle.rules.proofs.laws.Reachable.{Reachable, Passes, passed}
 use Rattle.rules.specs.Round.{take_all, round_halves}
 use Rattle.rules.proofs.laws.RoundCore.{verdict_at, take_ranked_core, round_core}
-use Rattle.rules.proofs.laws.SecondHalf.{Started, second_half_lem}
+use Rattle.rules.proofs.laws.AllPicked.{second_half_lem}
+use Rattle.rules.proofs.laws.Suspends.{Started}
 
 -- what holds of every history
 pub record HistoryFits (p : Plan) (h : History) : Type 0 where
