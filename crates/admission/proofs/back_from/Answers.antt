@@ -1,6 +1,5 @@
 use native.Mathlib.Omega.{arith}
 use borrow.Author.Tests.{le-ltb, lt-ltb}
-use borrow.Author.Rules.{rules}
 use Rattle.admission.proofs.back_from.Goals as goal
 
 pub returns-then-offset-n : goal.returns-then-offset-n

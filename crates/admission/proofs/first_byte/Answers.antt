@@ -1,6 +1,5 @@
 use mathlib.Core.Path.{sym, ap, ◌∙◌}
 use Rattle.admission.specs.RangeLaws.{is_found, mapped_behind, back_mapped}
-use borrow.Author.Rules.{rules}
 use Rattle.admission.proofs.first_byte.Goals as goal
 
 pub back_from-near-requires : goal.back_from-near-requires

@@ -1,5 +1,3 @@
-use borrow.Author.Tests.{not-true, not-false}
-use borrow.Author.Rules.{rules}
 use Rattle.admission.proofs.fits_window.Goals as goal
 
 pub returns-then-not-uses_window : goal.returns-then-not-uses_window

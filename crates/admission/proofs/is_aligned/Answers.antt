@@ -1,5 +1,3 @@
-use borrow.Author.Tests.{not-true, not-false}
-use borrow.Author.Rules.{rules}
 use Rattle.admission.proofs.is_aligned.Goals as goal
 
 pub returns-then-not-is_multiple : goal.returns-then-not-is_multiple

@@ -1,6 +1,5 @@
 use mathlib.Core.Path.{ap, ◌∙◌}
 use Rattle.admission.specs.RangeLaws.{last_inside, is_found}
-use borrow.Author.Rules.{rules}
 use Rattle.admission.proofs.is_inside.Goals as goal
 
 pub returns : goal.returns

@@ -7,8 +7,7 @@ use Rattle.memory.specs.declared.JobType.TheVariants.{Lock}
 use native.Mathlib.Omega.{arith}
 use mathlib.Core.Path.{◌≡◌, refl, sym, ap, ◌∙◌}
 use mathlib.Core.Bool.{true}
-use Prim.Native.Nat.{ℕ, ◌+◌, ◌-◌, ◌≤◌}
-use borrow.Author.Rules.{rules}
+use Prim.Native.Nat.{ℕ, ◌+◌, ◌≤◌}
 use Rattle.admission.proofs.on_one_device.Goals as goal
 
 pub loop-x-init : goal.loop-x-init

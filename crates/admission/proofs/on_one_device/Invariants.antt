@@ -1,14 +1,6 @@
-use Rattle.admission.specs.DeviceLaws.{further_spans, part_length, one_device_yes, one_device_no, spans_same, spans_more, spans_none}
-use Rattle.admission.specs.RangeLaws.{inside_some}
-use Rattle.segment.specs.declared.Segment.{Segment}
-use Rattle.rules.specs.Admission.{is_inside}
-use Rattle.memory.specs.declared.Task.{Task}
-use Rattle.memory.specs.declared.JobType.TheVariants.{Lock}
-use native.Mathlib.Omega.{arith}
-use mathlib.Core.Path.{◌≡◌, refl, sym, ap, ◌∙◌}
-use mathlib.Core.Bool.{true}
-use Prim.Native.Nat.{ℕ, ◌+◌, ◌-◌, ◌≤◌}
-use borrow.Author.Rules.{rules}
+use Rattle.admission.specs.DeviceLaws.{further_spans}
+use mathlib.Core.Path.{◌≡◌}
+use Prim.Native.Nat.{◌-◌, ◌≤◌}
 use Rattle.admission.proofs.on_one_device.Given as goal
 
 abbrev pub invariant-loop-x : goal.invariant-loop-x

@@ -3,9 +3,7 @@ use Rattle.admission.specs.RangeLaws.{last_none, last_found, lock_first, inside_
 use Rattle.admission.specs.AdmissionLaws.{refuses, range_outside, range_split, accepts, range_locks, range_unaligned, range_long, range_fits}
 use native.Mathlib.Omega.{arith}
 use Prim.Native.Nat.{◌+◌, ◌-◌}
-use borrow.Author.Tests.{not-false, not-true}
 use mathlib.Core.Path.{sym, ◌∙◌}
-use borrow.Author.Rules.{rules}
 use Rattle.admission.proofs.range_admission.Goals as goal
 
 pub returns-then-not-is_found : goal.returns-then-not-is_found

@@ -3,7 +3,6 @@ use Rattle.segment.specs.Segments.{segment_at}
 use Rattle.rules.specs.Admission.{range_device}
 use Rattle.memory.specs.declared.Task.{Task}
 use mathlib.Core.Path.{ap, ◌∙◌}
-use borrow.Author.Rules.{rules}
 use Rattle.admission.proofs.range_device.Goals as goal
 
 pub returns : goal.returns

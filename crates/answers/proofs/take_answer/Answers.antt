@@ -1,5 +1,4 @@
 use mathlib.Core.Path.{refl}
-use borrow.Author.Rules.{rules}
 use Rattle.answers.proofs.take_answer.Goals as goal
 
 pub next_segment-next-requires : goal.next_segment-next-requires

@@ -1,6 +1,4 @@
 use mathlib.Core.Path.{sym, ap, ◌∙◌}
-use borrow.Author.Tests.{not-true, not-false}
-use borrow.Author.Rules.{rules}
 use Rattle.answers.proofs.worn_by.Goals as goal
 
 pub returns-then-not-is_done : goal.returns-then-not-is_done

@@ -1,6 +1,5 @@
 use lib.ListN.{get_or}
 use Rattle.state.specs.Fresh.{fresh_area}
-use borrow.Author.Rules.{rules}
 use Rattle.changes.proofs.ask.Goals as goal
 
 pub returns : goal.returns

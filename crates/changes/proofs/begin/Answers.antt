@@ -2,7 +2,6 @@ use mathlib.Core.Path.{ap}
 use Rattle.admission.specs.AdmissionLaws.{accepted_retries}
 use Rattle.memory.specs.Numbers.{admission_number}
 use Rattle.changes.specs.laws.Changes.{begun_refused, begun_accepted}
-use borrow.Author.Rules.{rules}
 use Rattle.changes.proofs.begin.Goals as goal
 
 pub returns-in-Refused : goal.returns-in-Refused

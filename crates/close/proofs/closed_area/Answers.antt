@@ -1,7 +1,5 @@
 use Rattle.close.specs.Close.{counted}
-use borrow.Author.Tests.{not-true, not-false}
 use mathlib.Core.Path.{sym, ◌∙◌, ap}
-use borrow.Author.Rules.{rules}
 use Rattle.close.proofs.closed_area.Goals as goal
 
 pub returns-then-not-is_pending : goal.returns-then-not-is_pending

@@ -1,4 +1,3 @@
-use borrow.Author.Rules.{rules}
 use Rattle.close.proofs.counted.Goals as goal
 
 pub returns-in-Own : goal.returns-in-Own

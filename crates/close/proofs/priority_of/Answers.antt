@@ -1,5 +1,4 @@
 use Rattle.close.specs.laws.Waits.{no_priority}
-use borrow.Author.Rules.{rules}
 use Rattle.close.proofs.priority_of.Goals as goal
 
 pub returns-then-area-ge8 : goal.returns-then-area-ge8

@@ -1,6 +1,5 @@
 use mathlib.Core.Path.{sym, ◌∙◌}
 use Rattle.close.specs.laws.Waits.{behind_own, behind_above, behind_below}
-use borrow.Author.Rules.{rules}
 use Rattle.close.proofs.wait_behind.Goals as goal
 
 pub returns-then-runner-area : goal.returns-then-runner-area

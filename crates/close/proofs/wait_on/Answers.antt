@@ -1,4 +1,3 @@
-use borrow.Author.Rules.{rules}
 use Rattle.close.proofs.wait_on.Goals as goal
 
 pub returns-in-Runs : goal.returns-in-Runs

@@ -1,7 +1,5 @@
 use Rattle.devices.specs.laws.DeviceLaws.{none_held}
 use mathlib.Core.Path.{sym, ◌∙◌}
-use borrow.Author.Tests.{not-true}
-use borrow.Author.Rules.{rules}
 use Rattle.devices.proofs.area_held.Goals as goal
 
 pub returns-then-not-held_somewhere : goal.returns-then-not-held_somewhere

@@ -3,7 +3,6 @@ use mathlib.Core.Path.{sym, ◌∙◌}
 use Rattle.rules.specs.Layout.{layout_of}
 use Rattle.devices.specs.laws.DeviceLaws.{cancel_job}
 use Rattle.devices.specs.Arrays.{device_in}
-use borrow.Author.Rules.{rules}
 use Rattle.devices.proofs.cancelled_job.Goals as goal
 
 pub returns-then-area_held : goal.returns-then-area_held

@@ -1,11 +1,6 @@
-use borrow.Author.Rules.{rules}
 use native.Mathlib.Omega.{arith}
-use Prim.Native.Nat.{◌-◌, ◌≤◌}
-use mathlib.Core.Path.{◌≡◌, refl, sym, ap, ◌∙◌}
-use mathlib.Core.Bool.{false}
+use mathlib.Core.Path.{refl, sym, ap, ◌∙◌}
 use Rattle.arith.specs.Bounded.{some, some_intro, some_none}
-use Rattle.rules.specs.Machine.{holds}
-use Rattle.devices.specs.Arrays.{device_in}
 use Rattle.devices.proofs.held_somewhere.Goals as goal
 
 pub loop-d-init : goal.loop-d-init

@@ -1,9 +1,7 @@
-use borrow.Author.Rules.{rules}
-use native.Mathlib.Omega.{arith}
 use Prim.Native.Nat.{◌-◌, ◌≤◌}
-use mathlib.Core.Path.{◌≡◌, refl, sym, ap, ◌∙◌}
+use mathlib.Core.Path.{◌≡◌}
 use mathlib.Core.Bool.{false}
-use Rattle.arith.specs.Bounded.{some, some_intro, some_none}
+use Rattle.arith.specs.Bounded.{some}
 use Rattle.rules.specs.Machine.{holds}
 use Rattle.devices.specs.Arrays.{device_in}
 use Rattle.devices.proofs.held_somewhere.Given as goal

@@ -1,5 +1,4 @@
 use mathlib.Core.Path.{sym, ◌∙◌}
-use borrow.Author.Rules.{rules}
 use Rattle.devices.proofs.holds.Goals as goal
 
 pub returns-then-runs_for : goal.returns-then-runs_for

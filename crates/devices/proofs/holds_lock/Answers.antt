@@ -1,6 +1,5 @@
 use mathlib.Core.Path.{sym, ap, ◌∙◌}
 use Rattle.rules.specs.Admission.{holds_lock}
-use borrow.Author.Rules.{rules}
 use Rattle.devices.proofs.holds_lock.Goals as goal
 
 pub returns-in-Free : goal.returns-in-Free

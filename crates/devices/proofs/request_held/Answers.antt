@@ -1,6 +1,5 @@
 use mathlib.Core.Path.{◌∙◌}
 use Rattle.devices.specs.laws.DeviceLaws.{area_held}
-use borrow.Author.Rules.{rules}
 use Rattle.devices.proofs.request_held.Goals as goal
 
 pub returns : goal.returns

@@ -1,7 +1,6 @@
 use mathlib.Core.Path.{sym}
 use native.Mathlib.Omega.{arith}
 use Rattle.devices.specs.laws.ArrayLaws.{state_past}
-use borrow.Author.Rules.{rules}
 use Rattle.devices.proofs.state_on.Goals as goal
 
 pub returns-then-device-ge4 : goal.returns-then-device-ge4

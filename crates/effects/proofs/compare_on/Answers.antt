@@ -3,7 +3,6 @@ use Prim.Native.Nat.{◌+◌}
 use lib.Dec.{eqb}
 use lib.ListN.{get_or}
 use native.Mathlib.Omega.{arith}
-use borrow.Author.Rules.{rules}
 use Rattle.transfer.specs.PartLaws.{every_window}
 use Rattle.effects.proofs.compare_on.Goals as goal
 

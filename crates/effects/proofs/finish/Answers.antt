@@ -1,5 +1,4 @@
 use native.Mathlib.Omega.{arith}
-use borrow.Author.Rules.{rules}
 use Rattle.effects.proofs.finish.Goals as goal
 
 pub write_on-requires : goal.write_on-requires

@@ -2,7 +2,6 @@ use native.Mathlib.Nat.{le_trans}
 use Prim.Native.Nat.{◌≤◌}
 use Rattle.effects.specs.Effects.{lent_less}
 use native.Mathlib.Omega.{arith}
-use borrow.Author.Rules.{rules}
 use Rattle.effects.proofs.take_effect.Goals as goal
 
 pub returns-then-finish : goal.returns-then-finish

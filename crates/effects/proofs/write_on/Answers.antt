@@ -6,7 +6,6 @@ use lib.ListN.{get_or}
 use Rattle.arith.specs.Listed.{part_listed}
 use Rattle.arith.specs.Parts.{put}
 use Rattle.transfer.specs.PartLaws.{listed_window}
-use borrow.Author.Rules.{rules}
 use Rattle.effects.proofs.write_on.Goals as goal
 
 pub and_part-requires : goal.and_part-requires

@@ -1,6 +1,5 @@
 use mathlib.Core.Path.{sym, ◌∙◌}
 use Rattle.jobs.specs.JobLaws.{differs_cancelled, differs_ends}
-use borrow.Author.Rules.{rules}
 use Rattle.jobs.proofs.job_differs.Goals as goal
 
 pub returns-then-is_cancelling : goal.returns-then-is_cancelling

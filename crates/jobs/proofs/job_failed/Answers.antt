@@ -1,6 +1,5 @@
 use mathlib.Core.Path.{sym, ◌∙◌}
 use Rattle.jobs.specs.JobLaws.{failed_cancelled, failed_last, failed_again}
-use borrow.Author.Rules.{rules}
 use Rattle.jobs.proofs.job_failed.Goals as goal
 
 pub returns-then-is_cancelling : goal.returns-then-is_cancelling

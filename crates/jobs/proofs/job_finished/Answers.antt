@@ -1,7 +1,6 @@
 use mathlib.Core.Path.{sym, ap, ◌∙◌}
 use Rattle.jobs.specs.JobLaws.{finished_cancelled, finished_last, finished_more}
 use Rattle.rules.specs.Machine.{ended}
-use borrow.Author.Rules.{rules}
 use Rattle.jobs.proofs.job_finished.Goals as goal
 
 pub returns-then-is_cancelling : goal.returns-then-is_cancelling

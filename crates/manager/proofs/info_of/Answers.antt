@@ -4,7 +4,6 @@ use Rattle.memory.specs.Numbers.{admission_number}
 use Rattle.manager.specs.Calls.{manager_of}
 use Rattle.changes.specs.laws.Changes.{refused_some}
 use Rattle.manager.specs.laws.CallLaws.{info_number_lem, info_few, info_refused, info_accepted}
-use borrow.Author.Rules.{rules}
 use Rattle.manager.proofs.info_of.Goals as goal
 
 pub job_info-info-requires : goal.job_info-info-requires

@@ -1,8 +1,6 @@
 use Rattle.picks.specs.laws.Picks.{best_to, ready_in, best_turn}
 use native.Mathlib.Omega.{arith}
-use mathlib.Core.Path.{◌≡◌, refl, ap, ◌∙◌}
-use Prim.Native.Nat.{◌-◌, ◌≤◌}
-use borrow.Author.Rules.{rules}
+use mathlib.Core.Path.{refl, ap, ◌∙◌}
 use Rattle.picks.proofs.best_area.Goals as goal
 
 pub loop-a-init : goal.loop-a-init

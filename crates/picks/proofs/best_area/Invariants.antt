@@ -1,8 +1,6 @@
-use Rattle.picks.specs.laws.Picks.{best_to, ready_in, best_turn}
-use native.Mathlib.Omega.{arith}
-use mathlib.Core.Path.{◌≡◌, refl, ap, ◌∙◌}
+use Rattle.picks.specs.laws.Picks.{best_to, ready_in}
+use mathlib.Core.Path.{◌≡◌}
 use Prim.Native.Nat.{◌-◌, ◌≤◌}
-use borrow.Author.Rules.{rules}
 use Rattle.picks.proofs.best_area.Given as goal
 
 abbrev pub invariant-loop-a : goal.invariant-loop-a

@@ -1,4 +1,3 @@
-use borrow.Author.Rules.{rules}
 use Rattle.picks.proofs.better.Goals as goal
 
 pub returns-then-ranks_above : goal.returns-then-ranks_above

@@ -1,5 +1,3 @@
-use borrow.Author.Tests.{not-true, not-false}
-use borrow.Author.Rules.{rules}
 use Rattle.picks.proofs.better_if.Goals as goal
 
 pub returns-then-not-ready : goal.returns-then-not-ready

@@ -1,6 +1,5 @@
 use native.Mathlib.Omega.{arith}
 use borrow.Author.Tests.{lt-ltb, le-ltb}
-use borrow.Author.Rules.{rules}
 use Rattle.picks.proofs.chosen.Goals as goal
 
 pub returns-then-area-ge8 : goal.returns-then-area-ge8

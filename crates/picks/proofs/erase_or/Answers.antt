@@ -1,6 +1,4 @@
 use mathlib.Core.Path.{sym, ◌∙◌}
-use borrow.Author.Tests.{not-true, not-false}
-use borrow.Author.Rules.{rules}
 use Rattle.picks.proofs.erase_or.Goals as goal
 
 pub returns-then-not-displaces : goal.returns-then-not-displaces

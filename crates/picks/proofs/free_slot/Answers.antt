@@ -1,4 +1,3 @@
-use borrow.Author.Rules.{rules}
 use Rattle.picks.proofs.free_slot.Goals as goal
 
 pub returns-in-Erase : goal.returns-in-Erase

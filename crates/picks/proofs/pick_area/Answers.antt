@@ -1,5 +1,4 @@
 use mathlib.Core.Path.{sym, ◌∙◌}
-use borrow.Author.Rules.{rules}
 use Rattle.picks.proofs.pick_area.Goals as goal
 
 pub returns-then-is_taken : goal.returns-then-is_taken

@@ -1,5 +1,4 @@
-use borrow.Author.Tests.{not-true, not-false, lt-ltb, le-ltb}
-use borrow.Author.Rules.{rules}
+use borrow.Author.Tests.{lt-ltb, le-ltb}
 use Rattle.picks.proofs.running_slot.Goals as goal
 
 pub returns-then-area-ge8 : goal.returns-then-area-ge8

@@ -1,5 +1,3 @@
-use borrow.Author.Tests.{not-true, not-false}
-use borrow.Author.Rules.{rules}
 use Rattle.picks.proofs.slot_on.Goals as goal
 
 pub returns-then-not-suspends : goal.returns-then-not-suspends

@@ -1,4 +1,3 @@
-use borrow.Author.Rules.{rules}
 use Rattle.picks.proofs.start_free.Goals as goal
 
 pub returns-in-Nobody : goal.returns-in-Nobody

@@ -1,5 +1,4 @@
 use Rattle.rules.specs.Queries.{job_info_of}
-use borrow.Author.Rules.{rules}
 use Rattle.queries.proofs.job_info.Goals as goal
 
 pub returns : goal.returns

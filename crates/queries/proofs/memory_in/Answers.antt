@@ -1,4 +1,3 @@
-use borrow.Author.Rules.{rules}
 use Rattle.queries.proofs.memory_in.Goals as goal
 
 pub returns : goal.returns

@@ -1,7 +1,6 @@
 use native.Mathlib.Omega.{arith}
 use mathlib.Core.Path.{◌∙◌}
 use Rattle.queries.specs.laws.QueryLaws.{memory_outside, memory_inside, memory_place}
-use borrow.Author.Rules.{rules}
 use Rattle.queries.proofs.memory_info.Goals as goal
 
 pub offset_bounds-records-sub_area : goal.offset_bounds-records-sub_area

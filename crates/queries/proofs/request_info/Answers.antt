@@ -3,8 +3,6 @@ use mathlib.Core.Path.{sym, ◌∙◌}
 use Rattle.devices.specs.Arrays.{job_in}
 use Rattle.rules.specs.Layout.{layout_of}
 use Rattle.rules.specs.Machine.{due}
-use borrow.Author.Tests.{not-true}
-use borrow.Author.Rules.{rules}
 use Rattle.queries.proofs.request_info.Goals as goal
 
 pub returns-then-not-held_somewhere : goal.returns-then-not-held_somewhere

@@ -1,6 +1,5 @@
 use mathlib.Core.Path.{◌∙◌}
 use Rattle.queries.specs.laws.QueryLaws.{request_own, request_other}
-use borrow.Author.Rules.{rules}
 use Rattle.queries.proofs.request_on.Goals as goal
 
 pub returns-then-runner-area : goal.returns-then-runner-area

@@ -1,7 +1,6 @@
 use mathlib.Core.Path.{◌∙◌}
 use Rattle.queries.specs.laws.QueryLaws.{request_of_lem}
 use Rattle.devices.specs.Arrays.{job_in}
-use borrow.Author.Rules.{rules}
 use Rattle.queries.proofs.running_request.Goals as goal
 
 pub returns : goal.returns

@@ -1,7 +1,6 @@
 use mathlib.Core.Path.{◌∙◌}
 use native.Mathlib.Omega.{arith}
 use Rattle.queries.specs.laws.QueryLaws.{memory_place, wear_outside, wear_inside}
-use borrow.Author.Rules.{rules}
 use Rattle.queries.proofs.wear_info.Goals as goal
 
 pub offset_bounds-records-sub_area : goal.offset_bounds-records-sub_area

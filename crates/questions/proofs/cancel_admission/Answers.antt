@@ -1,7 +1,6 @@
 use mathlib.Core.Path.{sym, ◌∙◌}
 use Rattle.arith.specs.FirstNo.{first_no}
-use borrow.Author.Tests.{not-true, not-false, lt-ltb, le-ltb}
-use borrow.Author.Rules.{rules}
+use borrow.Author.Tests.{lt-ltb, le-ltb}
 use Rattle.questions.proofs.cancel_admission.Goals as goal
 
 pub returns-then-not-sound : goal.returns-then-not-sound

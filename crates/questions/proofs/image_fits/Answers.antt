@@ -1,5 +1,4 @@
 use Rattle.questions.specs.laws.QuestionLaws.{image_fits_lem}
-use borrow.Author.Rules.{rules}
 use Rattle.questions.proofs.image_fits.Goals as goal
 
 pub returns : goal.returns

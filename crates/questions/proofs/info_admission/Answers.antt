@@ -1,6 +1,6 @@
 use Rattle.rules.specs.Admission.{info_questions}
 use Rattle.arith.specs.FirstNo.{first_no}
-use borrow.Author.Tests.{not-true, not-false, lt-ltb, le-ltb}
+use borrow.Author.Tests.{lt-ltb, le-ltb}
 use Rattle.questions.proofs.info_admission.Goals as goal
 
 pub returns-then-not-sound : goal.returns-then-not-sound

@@ -2,7 +2,7 @@ use Rattle.rules.specs.Admission.{memory_info_questions}
 use native.Mathlib.Omega.{arith}
 use mathlib.Core.Path.{sym, ◌∙◌}
 use Rattle.arith.specs.FirstNo.{first_no}
-use borrow.Author.Tests.{not-true, not-false, lt-ltb, le-ltb}
+use borrow.Author.Tests.{lt-ltb, le-ltb}
 use Rattle.questions.proofs.memory_admission.Goals as goal
 
 pub returns-then-not-sound : goal.returns-then-not-sound

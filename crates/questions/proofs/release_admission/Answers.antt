@@ -2,8 +2,7 @@ use Rattle.rules.specs.Admission.{release_questions}
 use native.Mathlib.Omega.{arith}
 use mathlib.Core.Path.{sym, ◌∙◌}
 use Rattle.arith.specs.FirstNo.{first_no}
-use borrow.Author.Tests.{not-true, not-false, lt-ltb, le-ltb}
-use borrow.Author.Rules.{rules}
+use borrow.Author.Tests.{lt-ltb, le-ltb}
 use Rattle.questions.proofs.release_admission.Goals as goal
 
 pub returns-then-not-sound : goal.returns-then-not-sound

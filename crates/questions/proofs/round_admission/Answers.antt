@@ -1,11 +1,9 @@
 use mathlib.Core.Bool.{false≢true}
-use borrow.Author.Tests.{not-true, not-false}
 use mathlib.Core.Path.{sym, subst, ◌∙◌}
 use Rattle.machine.specs.laws.Dues.{Due, dues_found}
 use Rattle.devices.specs.Arrays.{job_in}
 use Rattle.machine.specs.laws.SoundCases.{other_counts, counts_few}
 use Rattle.questions.specs.laws.QuestionLaws.{round_unsound}
-use borrow.Author.Rules.{rules}
 use Rattle.questions.proofs.round_admission.Goals as goal
 
 pub returns-then-not-counts_fit : goal.returns-then-not-counts_fit

@@ -1,4 +1,3 @@
-use borrow.Author.Tests.{not-true, not-false}
 use mathlib.Core.Path.{sym, ◌∙◌}
 use Rattle.machine.specs.laws.SoundCases.{counts_few}
 use Rattle.machine.specs.laws.Dues.{fits_decide}

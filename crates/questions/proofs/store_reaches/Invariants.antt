@@ -1,14 +1,10 @@
-use Rattle.questions.specs.laws.QuestionLaws.{window_reached, window_missed}
-use Rattle.rules.specs.Admission.{store_reaches}
 use Rattle.plan.specs.Questions.{area_of, window_end}
-use Rattle.arith.specs.Bounded.{every, every_fails, every_more}
+use Rattle.arith.specs.Bounded.{every}
 use lib.ListN.{length}
 use lib.Dec.{leb}
-use native.Mathlib.Omega.{arith}
-use mathlib.Core.Path.{◌≡◌, refl, sym, ap, ◌∙◌}
+use mathlib.Core.Path.{◌≡◌}
 use mathlib.Core.Bool.{true}
 use Prim.Native.Nat.{◌-◌, ◌≤◌}
-use borrow.Author.Rules.{rules}
 use Rattle.questions.proofs.store_reaches.Given as goal
 
 abbrev pub invariant-loop-a : goal.invariant-loop-a

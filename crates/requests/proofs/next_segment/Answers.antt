@@ -1,5 +1,4 @@
 use borrow.Author.Tests.{le-leb, lt-leb}
-use borrow.Author.Rules.{rules}
 use Rattle.requests.proofs.next_segment.Goals as goal
 
 pub returns-then-task-upto : goal.returns-then-task-upto

@@ -2,7 +2,6 @@ use Prim.Native.Nat.{◌+◌}
 use lib.Dec.{leb}
 use mathlib.Core.Path.{ap, ◌∙◌}
 use Rattle.requests.specs.Requests.{taken_state, taken_with, due_with}
-use borrow.Author.Rules.{rules}
 use Rattle.requests.proofs.take_request.Goals as goal
 
 pub returns : goal.returns

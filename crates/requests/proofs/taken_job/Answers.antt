@@ -1,4 +1,3 @@
-use borrow.Author.Rules.{rules}
 use Rattle.requests.proofs.taken_job.Goals as goal
 
 pub returns-then-dropped : goal.returns-then-dropped

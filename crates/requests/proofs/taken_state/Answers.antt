@@ -2,7 +2,6 @@ use Prim.Native.Nat.{◌+◌, ◌<◌}
 use mathlib.Core.Path.{sym, ◌∙◌}
 use borrow.Author.Tests.{leb-false}
 use native.Mathlib.Omega.{arith}
-use borrow.Author.Rules.{rules}
 use Rattle.requests.proofs.taken_state.Goals as goal
 
 pub returns-then-is_dropped : goal.returns-then-is_dropped

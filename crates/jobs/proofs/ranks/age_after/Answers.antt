@@ -1,5 +1,4 @@
 use borrow.Author.Tests.{le-ltb, lt-ltb}
-use borrow.Author.Rules.{rules}
 use Rattle.jobs.proofs.ranks.age_after.Goals as goal
 
 pub returns-then-age-accepted : goal.returns-then-age-accepted

@@ -1,6 +1,5 @@
 use native.Mathlib.Omega.{arith}
 use Rattle.state.specs.laws.AgesLaws.{age_at, age_past}
-use borrow.Author.Rules.{rules}
 use Rattle.jobs.proofs.ranks.age_of.Goals as goal
 
 pub returns-then-area-ge8 : goal.returns-then-area-ge8

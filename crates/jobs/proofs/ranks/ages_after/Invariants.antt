@@ -1,12 +1,8 @@
 use Prim.Native.Nat.{◌-◌, ◌≤◌}
-use mathlib.Core.Path.{◌≡◌, refl, sym, ap, ◌∙◌}
-use native.Mathlib.Omega.{arith}
-use lib.ListN.{set}
-use Rattle.arith.specs.Tables.{table, table_more}
-use Rattle.jobs.specs.AgeLaws.{age_turn}
+use mathlib.Core.Path.{◌≡◌}
+use Rattle.arith.specs.Tables.{table}
 use Rattle.rules.specs.Ranks.{ages_after}
 use Rattle.state.specs.Ages.{age_in}
-use borrow.Author.Rules.{rules}
 use Rattle.jobs.proofs.ranks.ages_after.Given as goal
 
 abbrev pub invariant-loop-a : goal.invariant-loop-a

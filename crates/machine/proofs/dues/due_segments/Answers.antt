@@ -1,13 +1,11 @@
 use Rattle.plan.specs.Questions.{area_of}
 use Rattle.devices.specs.Arrays.{job_in}
 use lib.ListN.{set, replicate}
-use Prim.Native.Nat.{◌-◌, ◌≤◌}
-use mathlib.Core.Path.{◌≡◌, sym, ap, ◌∙◌}
+use mathlib.Core.Path.{sym, ap, ◌∙◌}
 use native.Mathlib.Omega.{arith}
 use Rattle.segment.specs.Segments.{no_segment}
 use Rattle.arith.specs.Tables.{table, table_more}
-use Rattle.machine.specs.laws.Dues.{due_of, dues_of, due_index, due_inside, due_turn}
-use borrow.Author.Rules.{rules}
+use Rattle.machine.specs.laws.Dues.{dues_of, due_index, due_inside, due_turn}
 use Rattle.machine.proofs.dues.due_segments.Goals as goal
 
 pub loop-a-init : goal.loop-a-init

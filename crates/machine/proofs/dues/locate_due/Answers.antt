@@ -1,6 +1,4 @@
 use mathlib.Core.Path.{sym, ◌∙◌}
-use borrow.Author.Tests.{not-true, not-false}
-use borrow.Author.Rules.{rules}
 use Rattle.machine.proofs.dues.locate_due.Goals as goal
 
 pub returns-then-not-is_pending : goal.returns-then-not-is_pending

@@ -1,11 +1,7 @@
-use Rattle.machine.specs.laws.Dues.{fits_in, state_turn}
-use mathlib.Core.Bool.{true}
-use Prim.Native.Nat.{◌-◌, ◌≤◌}
-use mathlib.Core.Path.{◌≡◌, refl, sym, ap, ◌∙◌}
+use Rattle.machine.specs.laws.Dues.{state_turn}
+use mathlib.Core.Path.{refl, sym, ap, ◌∙◌}
 use native.Mathlib.Omega.{arith}
-use borrow.Author.Tests.{not-true, not-false}
 use Rattle.arith.specs.Bounded.{every, every_fails, every_more}
-use borrow.Author.Rules.{rules}
 use Rattle.machine.proofs.dues.states_fit.Goals as goal
 
 pub loop-d-init : goal.loop-d-init

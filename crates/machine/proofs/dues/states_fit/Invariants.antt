@@ -1,11 +1,8 @@
-use Rattle.machine.specs.laws.Dues.{fits_in, state_turn}
+use Rattle.machine.specs.laws.Dues.{fits_in}
 use mathlib.Core.Bool.{true}
 use Prim.Native.Nat.{◌-◌, ◌≤◌}
-use mathlib.Core.Path.{◌≡◌, refl, sym, ap, ◌∙◌}
-use native.Mathlib.Omega.{arith}
-use borrow.Author.Tests.{not-true, not-false}
-use Rattle.arith.specs.Bounded.{every, every_fails, every_more}
-use borrow.Author.Rules.{rules}
+use mathlib.Core.Path.{◌≡◌}
+use Rattle.arith.specs.Bounded.{every}
 use Rattle.machine.proofs.dues.states_fit.Given as goal
 
 abbrev pub invariant-loop-d : goal.invariant-loop-d

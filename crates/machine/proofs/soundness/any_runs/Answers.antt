@@ -1,11 +1,6 @@
-use Rattle.devices.specs.Arrays.{state_in}
-use Rattle.machine.specs.laws.Dues.{is_running}
 use Rattle.arith.specs.Bounded.{some, some_intro, some_none}
-use mathlib.Core.Bool.{false}
-use mathlib.Core.Path.{◌≡◌, refl, sym, ap, ◌∙◌}
-use Prim.Native.Nat.{◌-◌, ◌≤◌}
+use mathlib.Core.Path.{refl, sym, ap, ◌∙◌}
 use native.Mathlib.Omega.{arith}
-use borrow.Author.Rules.{rules}
 use Rattle.machine.proofs.soundness.any_runs.Goals as goal
 
 pub loop-d-init : goal.loop-d-init

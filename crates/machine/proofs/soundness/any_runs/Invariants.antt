@@ -1,11 +1,9 @@
 use Rattle.devices.specs.Arrays.{state_in}
 use Rattle.machine.specs.laws.Dues.{is_running}
-use Rattle.arith.specs.Bounded.{some, some_intro, some_none}
+use Rattle.arith.specs.Bounded.{some}
 use mathlib.Core.Bool.{false}
-use mathlib.Core.Path.{◌≡◌, refl, sym, ap, ◌∙◌}
+use mathlib.Core.Path.{◌≡◌}
 use Prim.Native.Nat.{◌-◌, ◌≤◌}
-use native.Mathlib.Omega.{arith}
-use borrow.Author.Rules.{rules}
 use Rattle.machine.proofs.soundness.any_runs.Given as goal
 
 abbrev pub invariant-loop-d : goal.invariant-loop-d

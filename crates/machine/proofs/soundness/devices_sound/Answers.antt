@@ -1,13 +1,8 @@
-use Rattle.devices.specs.Arrays.{job_in, state_in}
-use Rattle.machine.specs.Sound.{state_sound}
+use Rattle.devices.specs.Arrays.{state_in}
 use Rattle.machine.specs.laws.Dues.{running_decides}
-use mathlib.Core.Bool.{true}
-use Prim.Native.Nat.{◌-◌, ◌≤◌}
-use mathlib.Core.Path.{◌≡◌, refl, sym, ap, ◌∙◌}
+use mathlib.Core.Path.{refl, sym, ap, ◌∙◌}
 use native.Mathlib.Omega.{arith}
-use borrow.Author.Tests.{not-true, not-false}
 use Rattle.arith.specs.Bounded.{every, every_fails, every_more}
-use borrow.Author.Rules.{rules}
 use Rattle.machine.proofs.soundness.devices_sound.Goals as goal
 
 pub loop-d-init : goal.loop-d-init

@@ -1,8 +1,6 @@
 use Rattle.machine.specs.laws.Dues.{none_runs}
 use Rattle.machine.specs.laws.SoundCases.{other_counts, devices_decide, counts_few}
-use borrow.Author.Tests.{not-true, not-false}
 use mathlib.Core.Path.{sym, ◌∙◌}
-use borrow.Author.Rules.{rules}
 use Rattle.machine.proofs.soundness.is_sound.Goals as goal
 
 pub returns-then-not-counts_fit : goal.returns-then-not-counts_fit

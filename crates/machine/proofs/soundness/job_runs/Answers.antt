@@ -1,5 +1,3 @@
-use borrow.Author.Tests.{not-false, not-true}
-use borrow.Author.Rules.{rules}
 use Rattle.machine.proofs.soundness.job_runs.Goals as goal
 
 pub returns-then-not-is_pending : goal.returns-then-not-is_pending

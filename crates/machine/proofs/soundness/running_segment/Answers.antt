@@ -1,6 +1,5 @@
 use mathlib.Core.Path.{◌∙◌}
 use borrow.Author.Tests.{lt-ltb, le-ltb}
-use borrow.Author.Rules.{rules}
 use Rattle.machine.proofs.soundness.running_segment.Goals as goal
 
 pub returns-then-area-ge8 : goal.returns-then-area-ge8

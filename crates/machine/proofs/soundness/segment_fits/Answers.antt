@@ -1,8 +1,6 @@
 use mathlib.Core.Path.{sym, ◌∙◌}
 use native.Mathlib.Omega.{arith}
 use Rattle.machine.specs.laws.SoundCases.{other_device, past_image, past_job, no_window, window_decides}
-use borrow.Author.Tests.{not-true, not-false}
-use borrow.Author.Rules.{rules}
 use Rattle.machine.proofs.soundness.segment_fits.Goals as goal
 
 pub returns-then-segment-device : goal.returns-then-segment-device

@@ -6,7 +6,6 @@ use Rattle.rules.specs.Admission.{skip, is_known}
 use Rattle.rules.specs.Machine.{is_pending}
 use Rattle.changes.specs.laws.Changes.{stopped_change}
 use Rattle.manager.specs.laws.ChangeLaws.{cancel_none, cancel_asked, cancel_stopped}
-use borrow.Author.Rules.{rules}
 use Rattle.manager.proofs.Manager.cancel.Goals as goal
 
 pub stop-change-requires : goal.stop-change-requires

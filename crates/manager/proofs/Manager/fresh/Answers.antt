@@ -1,5 +1,4 @@
 use Rattle.manager.specs.Load.{fresh_manager}
-use borrow.Author.Rules.{rules}
 use Rattle.manager.proofs.Manager.fresh.Goals as goal
 
 pub returns : goal.returns

@@ -1,5 +1,4 @@
 use Rattle.manager.specs.laws.CallLaws.{info_type}
-use borrow.Author.Rules.{rules}
 use Rattle.manager.proofs.Manager.job_info.Goals as goal
 
 pub returns : goal.returns

@@ -6,7 +6,6 @@ use Rattle.manager.specs.Load.{fresh_manager}
 use Rattle.manager.specs.laws.LoadLaws.{accepted_loaded, refused_loaded}
 use Rattle.memory.specs.Numbers.{admission_number}
 use Rattle.state.specs.Ages.{first_ages}
-use borrow.Author.Rules.{rules}
 use Rattle.manager.proofs.Manager.load.Goals as goal
 
 pub returns-in-Refused : goal.returns-in-Refused

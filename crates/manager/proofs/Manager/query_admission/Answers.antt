@@ -1,5 +1,4 @@
 use Rattle.manager.specs.laws.CallLaws.{info_number_lem}
-use borrow.Author.Rules.{rules}
 use Rattle.manager.proofs.Manager.query_admission.Goals as goal
 
 pub returns : goal.returns

@@ -1,4 +1,3 @@
-use borrow.Author.Rules.{rules}
 use Rattle.manager.proofs.Manager.release.Goals as goal
 
 pub returns : goal.returns

@@ -2,7 +2,6 @@ use mathlib.Core.Path.{sym, ap, ◌∙◌}
 use Rattle.memory.specs.Numbers.{admission_number}
 use Rattle.changes.specs.laws.Changes.{refused_some}
 use Rattle.manager.specs.laws.CallLaws.{info_few, result_refused, result_accepted}
-use borrow.Author.Rules.{rules}
 use Rattle.manager.proofs.Manager.result.Goals as goal
 
 pub job_of-job-requires : goal.job_of-job-requires

@@ -1,6 +1,5 @@
 use mathlib.Core.Path.{ap, ◌∙◌}
 use Rattle.manager.specs.Calls.{manager_of}
-use borrow.Author.Rules.{rules}
 use Rattle.manager.proofs.Manager.round.Goals as goal
 
 pub returns : goal.returns

@@ -9,7 +9,6 @@ use Rattle.rules.specs.Machine.{is_pending}
 use Rattle.state.specs.Fresh.{free_device}
 use Rattle.changes.specs.laws.Changes.{begun_change}
 use Rattle.manager.specs.laws.ChangeLaws.{job_none, job_asked, job_begun}
-use borrow.Author.Rules.{rules}
 use Rattle.manager.proofs.Manager.submit.Goals as goal
 
 pub begin-change-requires : goal.begin-change-requires

@@ -3,7 +3,6 @@ use Rattle.manager.specs.laws.CallLaws.{memory_number_lem, memory_few, wear_refu
 use Rattle.machine.specs.laws.SoundCases.{sound_few}
 use Rattle.memory.specs.Numbers.{admission_number}
 use mathlib.Core.Path.{sym, ap, ◌∙◌}
-use borrow.Author.Rules.{rules}
 use Rattle.manager.proofs.Manager.wear_info.Goals as goal
 
 pub memory_admission-answer-requires : goal.memory_admission-answer-requires

@@ -7,7 +7,6 @@ use Rattle.rules.specs.Admission.{skip, is_known}
 use Rattle.rules.specs.Machine.{is_pending}
 use Rattle.changes.specs.laws.Changes.{stopped_change}
 use Rattle.manager.specs.laws.ChangeLaws.{kept, cancel_none, cancel_asked, cancel_stopped}
-use borrow.Author.Rules.{rules}
 use Rattle.manager.proofs.in_place.cancel_change.Goals as goal
 
 pub stop-requires : goal.stop-requires

@@ -10,7 +10,6 @@ use Rattle.rules.specs.Machine.{is_pending}
 use Rattle.state.specs.Fresh.{free_device}
 use Rattle.changes.specs.laws.Changes.{begun_change}
 use Rattle.manager.specs.laws.ChangeLaws.{kept, job_none, job_asked, job_begun}
-use borrow.Author.Rules.{rules}
 use Rattle.manager.proofs.in_place.job_change.Goals as goal
 
 pub begin-requires : goal.begin-requires

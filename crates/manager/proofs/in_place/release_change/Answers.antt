@@ -9,7 +9,6 @@ use Rattle.manager.specs.Calls.{manager_of}
 use Rattle.changes.specs.laws.Changes.{refused_some}
 use Rattle.manager.specs.laws.CallLaws.{release_number_lem, release_few, release_known, release_refused}
 use Rattle.manager.specs.laws.ChangeLaws.{kept, release_freed}
-use borrow.Author.Rules.{rules}
 use Rattle.manager.proofs.in_place.release_change.Goals as goal
 
 pub release_admission-answer-requires : goal.release_admission-answer-requires

@@ -8,7 +8,6 @@ use Rattle.manager.specs.declared.Manager.{Manager}
 use Rattle.changes.specs.laws.Changes.{refused_some}
 use Rattle.manager.specs.laws.CallLaws.{round_asked, round_refused, round_accepted, round_memory_refused, round_memory_accepted}
 use Rattle.wear.specs.Wear.{add_worn}
-use borrow.Author.Rules.{rules}
 use Rattle.manager.proofs.in_place.round_change.Goals as goal
 
 pub run_round-next-requires : goal.run_round-next-requires

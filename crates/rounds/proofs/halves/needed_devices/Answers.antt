@@ -1,11 +1,9 @@
-use Prim.Native.Nat.{◌-◌, ◌≤◌}
-use mathlib.Core.Path.{◌≡◌, refl, sym, ap, ◌∙◌}
+use mathlib.Core.Path.{refl, sym, ap, ◌∙◌}
 use native.Mathlib.Omega.{arith}
 use lib.ListN.{get_or, set}
 use Rattle.segment.specs.Segments.{no_segment}
 use Rattle.arith.specs.Tables.{table, table_more}
 use Rattle.rounds.specs.laws.NeedLaws.{needs_of}
-use borrow.Author.Rules.{rules}
 use Rattle.rounds.proofs.halves.needed_devices.Goals as goal
 
 pub loop-a-init : goal.loop-a-init

@@ -1,11 +1,8 @@
 use Prim.Native.Nat.{◌-◌, ◌≤◌}
-use mathlib.Core.Path.{◌≡◌, refl, sym, ap, ◌∙◌}
-use native.Mathlib.Omega.{arith}
-use lib.ListN.{get_or, set}
+use mathlib.Core.Path.{◌≡◌}
+use lib.ListN.{get_or}
 use Rattle.segment.specs.Segments.{no_segment}
-use Rattle.arith.specs.Tables.{table, table_more}
-use Rattle.rounds.specs.laws.NeedLaws.{needs_of}
-use borrow.Author.Rules.{rules}
+use Rattle.arith.specs.Tables.{table}
 use Rattle.rounds.proofs.halves.needed_devices.Given as goal
 
 abbrev pub invariant-loop-a : goal.invariant-loop-a

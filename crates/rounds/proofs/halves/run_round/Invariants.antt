@@ -1,29 +1,19 @@
-use Prim.Native.Nat.{ℕ, ◌-◌, ◌≤◌}
+use Prim.Native.Nat.{◌-◌, ◌≤◌}
 use mathlib.Core.List.{[]}
-use mathlib.Core.Path.{◌≡◌, refl, sym, ap, ◌∙◌}
-use native.Mathlib.Omega.{arith}
-use lib.ListN.{length, get_or, set, replicate, length-set}
-use Rattle.answers.specs.Worn.{worn_on}
-use Rattle.arith.specs.Tables.{table, table_more}
-use Rattle.segment.specs.Segments.{no_segment}
+use mathlib.Core.Path.{◌≡◌}
+use lib.ListN.{length}
+use Rattle.arith.specs.Tables.{table}
 use Rattle.machine.specs.laws.Dues.{Due}
-use Rattle.machine.specs.laws.SoundCases.{sound_counts}
-use Rattle.devices.specs.Arrays.{job_in, state_in, core_in}
+use Rattle.devices.specs.Arrays.{job_in, core_in}
 use Rattle.effects.specs.Effects.{memory_of}
 use Rattle.rules.specs.Machine.{second_half}
-use Rattle.rules.specs.Round.{take_all, answer_for}
-use Rattle.wear.specs.Wear.{no_worn, add_worn}
-use Rattle.wear.specs.declared.Worn.{Worn}
+use Rattle.rules.specs.Round.{take_all}
+use Rattle.wear.specs.Wear.{no_worn}
 use Rattle.close.specs.Close.{area_after, lent_to}
-use Rattle.rounds.specs.laws.AnswerLaws.{turn_sound, image_again, store_again}
-use Rattle.rounds.specs.laws.CloseLaws.{ClosedTo, closed_none, closed_turn, closed_all}
-use Rattle.rounds.specs.laws.Halves.{both, take_turn}
-use Rattle.rounds.specs.laws.NeedLaws.{whole_areas, whole_devices, whole_memory}
-use Rattle.rounds.specs.laws.PickLaws.{start_turn, second_turn}
+use Rattle.rounds.specs.laws.CloseLaws.{ClosedTo}
+use Rattle.rounds.specs.laws.Halves.{both}
 use Rattle.close.specs.laws.Waits.{needs_layout}
-use Rattle.rounds.specs.laws.Turns.{lent_turn, whole_turn}
-use Rattle.rounds.specs.laws.WearTurns.{worn_for, wear_all}
-use borrow.Author.Rules.{rules, elem_Fits}
+use Rattle.rounds.specs.laws.WearTurns.{worn_for}
 use Rattle.rounds.proofs.halves.run_round.Given as goal
 
 abbrev pub invariant-loop-k : goal.invariant-loop-k
