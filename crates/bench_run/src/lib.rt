@@ -1,24 +1,26 @@
-// The bench program: it reads plan.bin in the current directory and plays the session on standard input.
+// The bench program: it reads plan.bin in the current directory and plays the session that a reader brings, the standard input.
 // Programs over it differ only in the files that they are run on.
 //
 // What is done with bytes once they are in a buffer is an equation: what the lines of the input leave of manager, image and store, and what is kept of a begun line. Which bytes a read
-// brings, and whether a write took its bytes, is for the C library to say, whose contracts bound counts alone: each function that reads or writes says at its contract what that leaves open.
+// brings, and whether a write took its bytes, is for the reader and the writer to say, and those of the system say nothing but counts: each function that reads or writes says at its contract what that leaves open.
 #![tactic(auto)]
+
 ghost use Rattle.std.specs.Prelude.{true, false, [], ◌≡◌, ◌≤◌, length, take, drop, replicate};
 ghost use Rattle.session.specs.AllLines.{bench_of, after_lines, lines_of, PlayedTo};
 ghost use Rattle.bench_run.specs.Input.{TakenInput, TakenWhole};
 
 use buffers::{first_image, first_store, keep, question_text};
-use libc::{STDIN_FILENO, STDOUT_FILENO};
 use manager::Manager;
 use session::fold::play_lines;
+use std::io::{Read, Write};
+use std::rt::Files;
 use streams::{Chunk, Contents};
 
-// Writes the first bytes of a buffer, and answers whether all could be written: the C library decides, so nothing is promised of the answer.
-fn print(out: &[u8], count: usize) -> bool
+// Writes the first bytes of a buffer, and answers whether all could be written: the writer decides, so nothing is promised of the answer.
+fn print<W: Write>(writer: &mut W, out: &[u8], count: usize) -> bool
     requires { count ≤ length out.now }
 {
-    streams::write_all(STDOUT_FILENO, &out[0..count]) == count
+    streams::write_all(writer, &out[0..count]) == count
 }
 
 // The next manager, how much of the input was used, and whether the answers could be written.
@@ -31,7 +33,8 @@ struct Answered {
 
 // Plays the lines of the input, and writes what they print whenever the buffer is full and at the end. The writes decide how far it comes: no line is played after one that failed. Where
 // none failed, and the buffer has room for an answer, no line is left. What stands in the buffer afterwards is left open.
-fn answer_lines(
+fn answer_lines<W: Write>(
+    writer: &mut W,
     manager: Manager,
     input: &[u8],
     ends: bool,
@@ -57,7 +60,7 @@ fn answer_lines(
             };
         }
         at += used;
-        if !print(out, progress.written) {
+        if !print(writer, out, progress.written) {
             return Answered {
                 manager: next,
                 used: at,
@@ -82,7 +85,8 @@ struct Turn {
 
 // Takes the input that came behind the begun line. Nothing waits to be written when it returns. Where a write failed, it says how far the lines were played; else they were all played, and
 // what is kept is the line that is begun then. The bytes of the input behind what is kept, and those of the buffer, are left open.
-fn take_input(
+fn take_input<W: Write>(
+    writer: &mut W,
     manager: Manager,
     input: &mut [u8],
     filled: usize,
@@ -95,7 +99,7 @@ fn take_input(
     ensures taken_whole { 338 ≤ length out.old → result.is_open ≡ true → TakenWhole (take filled input.old) (bench_of manager image.old store.old) (bench_of result.manager image.new store.new) (take result.kept input.new) }
     ensures kept_bound { result.kept ≤ 4097 }
 {
-    let answered = answer_lines(manager, &input[0..filled], false, image, store, out);
+    let answered = answer_lines(writer, manager, &input[0..filled], false, image, store, out);
     let next = answered.manager;
     let kept = keep(input, answered.used, filled);
     Turn {
@@ -106,7 +110,8 @@ fn take_input(
 }
 
 // The input has ended: the begun line is a line, and it is played whether or not its answer can be written. Left open are the bytes of the buffer.
-fn end_input(
+fn end_input<W: Write>(
+    writer: &mut W,
     manager: Manager,
     line: &[u8],
     image: &mut [u8],
@@ -116,7 +121,7 @@ fn end_input(
     ensures store_after { 338 ≤ length out.old → lines_of false line.now ≡ [] → bench_of result.manager image.new store.new ≡ after_lines (lines_of true line.now) (bench_of manager image.old store.old) }
     ensures kept_value { (result.kept ≡ 0) × (result.is_open ≡ false) }
 {
-    let answered = answer_lines(manager, line, true, image, store, out);
+    let answered = answer_lines(writer, manager, line, true, image, store, out);
     let next = answered.manager;
     Turn {
         manager: next,
@@ -127,7 +132,9 @@ fn end_input(
 
 // Reads once, and takes what came, or the end. The read decides which bytes these are, so what they leave of manager, image, store and input is left open here: `take_input` and
 // `end_input` say it of the bytes that are in the input then.
-fn take_turn(
+fn take_turn<R: Read, W: Write>(
+    reader: &mut R,
+    writer: &mut W,
     manager: Manager,
     kept: usize,
     input: &mut [u8],
@@ -138,16 +145,18 @@ fn take_turn(
     requires { (kept ≤ 4097) × (4097 ≤ length input.old) }
     ensures { result.kept ≤ 4097 }
 {
-    match streams::read_some(STDIN_FILENO, &mut input[kept..]) {
-        Chunk::Bytes(n) => take_input(manager, input, kept + n, image, store, out),
-        Chunk::End => end_input(manager, &input[0..kept], image, store, out),
-        Chunk::Failed(_) => end_input(manager, &input[0..kept], image, store, out),
+    match streams::read_some(reader, &mut input[kept..]) {
+        Chunk::Bytes(n) => take_input(writer, manager, input, kept + n, image, store, out),
+        Chunk::End => end_input(writer, manager, &input[0..kept], image, store, out),
+        Chunk::Failed(_) => end_input(writer, manager, &input[0..kept], image, store, out),
     }
 }
 
 // All of the input, from the bench's first image and store. Nothing says that it ends, so the turns are counted, from a number that no run uses up. The reads decide what is played, so that is
 // left open: each turn says it of the bytes that it got.
-fn serve(
+fn serve<R: Read, W: Write>(
+    reader: &mut R,
+    writer: &mut W,
     manager: Manager,
     input: &mut [u8],
     image: &mut [u8],
@@ -161,7 +170,7 @@ fn serve(
     let mut kept = 0;
     let mut turns = u64::MAX;
     while turns > 0 {
-        let turn = take_turn(next, kept, input, image, store, out);
+        let turn = take_turn(reader, writer, next, kept, input, image, store, out);
         next = turn.manager;
         kept = turn.kept;
         if !turn.is_open {
@@ -173,14 +182,14 @@ fn serve(
 }
 
 // The session over a plan of n bytes. The reads decide what is played, and the writes what is printed.
-fn play_session(plan: &[u8], n: usize) -> usize
+fn play_session<R: Read, W: Write>(reader: &mut R, writer: &mut W, plan: &[u8], n: usize) -> usize
     requires { n ≤ length plan.now }
     ensures { result ≤ 4097 }
 {
     let mut out = [0u8; 65536];
     let opened = session::open(&plan[0..n], &mut out);
     if 0 < opened.written {
-        print(&out, opened.written);
+        print(writer, &out, opened.written);
         return 0;
     }
     let manager = opened.manager;
@@ -190,6 +199,8 @@ fn play_session(plan: &[u8], n: usize) -> usize
     // a begun line, and what one read brings behind it
     let mut input = [0u8; 69633];
     serve(
+        reader,
+        writer,
         manager,
         &mut input,
         &mut image[0..sum],
@@ -199,24 +210,24 @@ fn play_session(plan: &[u8], n: usize) -> usize
 }
 
 // "a plan above that sum, over 4,096 bytes or unreadable prints only '?'": whether it could be written is not asked.
-fn unreadable() -> usize
+fn unreadable<W: Write>(writer: &mut W) -> usize
     ensures { result ≡ 0 }
 {
     let text = question_text();
-    print(&text, 2);
+    print(writer, &text, 2);
     0
 }
 
 // Runs the session, and answers how many bytes of a begun line were not taken. What plan.bin holds, what the input is and what can be written is decided outside, so all that is done is left
 // open here.
-pub fn run() -> usize
+pub fn run<F: Files, R: Read, W: Write>(files: &F, reader: &mut R, writer: &mut W) -> usize
     ensures { result ≤ 4097 }
 {
     // one byte more than a plan may have, so that a longer one is seen
     let mut plan = [0u8; 4097];
-    match streams::read_file(b"plan.bin", &mut plan) {
-        Contents::Bytes(n) => play_session(&plan, n),
-        Contents::TooLong => unreadable(),
-        Contents::Failed(_) => unreadable(),
+    match streams::read_file(files, "plan.bin", &mut plan) {
+        Contents::Bytes(n) => play_session(reader, writer, &plan, n),
+        Contents::TooLong => unreadable(writer),
+        Contents::Failed(_) => unreadable(writer),
     }
 }
