@@ -4,4 +4,4 @@ use borrow.Author.Rules.{rules}
 use Rattle.audit_run.proofs.audit_plan.Goals as goal
 
 pub audit_jobs-requires : goal.audit_jobs-requires
-audit_jobs-requires c = let o = c.«open».ensures in rw o.0 (open_loaded _ _ _ (omega arith) (omega arith) o.1.0.0.ends)
+audit_jobs-requires g c = let o = c.«open».ensures in rw o.0 (open_loaded _ _ _ (omega arith) (omega arith) o.1.0.0.ends)
