@@ -1,8 +1,4 @@
-use lib.ListN.{length}
-use mathlib.Core.Path.{◌≡◌, refl}
-use native.Mathlib.Omega.{arith}
-use borrow.Author.Rules.{rules}
-use Rattle.audits.specs.Filled.{PlaceFits}
+use Rattle.std.proofs.Common.{refl, arith}
 use Rattle.audit_run.proofs.write_rows.Goals as goal
 
 pub loop-turns-init : goal.loop-turns-init

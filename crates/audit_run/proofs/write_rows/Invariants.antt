@@ -1,7 +1,4 @@
-use lib.ListN.{length}
-use mathlib.Core.Path.{◌≡◌, refl}
-use native.Mathlib.Omega.{arith}
-use borrow.Author.Rules.{rules}
+use Rattle.std.proofs.Common.{length, ◌≡◌}
 use Rattle.audits.specs.Filled.{PlaceFits}
 use Rattle.audit_run.proofs.write_rows.Given as goal
 
