@@ -1,1 +1,1 @@
-mod Moving
+pub mod Moving

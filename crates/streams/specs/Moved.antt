@@ -1,7 +1,7 @@
--- Which bytes a read moved, of a reader that says which it has left.
-use Rattle.std.specs.Prelude.{ℕ, ◌≤◌, ◌<◌, List, length, take}
+-- Which bytes a read or a write moved, of a reader that says which it has left and a writer that says which it holds.
+use Rattle.std.specs.Prelude.{ℕ, ◌≤◌, ◌<◌, List, [], ◌++◌, ◌≡◌, length, take}
 use Rattle.std.specs.declared.option.Option.{Option}
-use Rattle.std.specs.Io.KnownBytes.{Keeps, Consumes, IsAtEnd}
+use Rattle.std.specs.Io.KnownBytes.{Keeps, Appends, Consumes, IsAtEnd}
 use Rattle.streams.specs.declared.Chunk.{Chunk}
 use Rattle.streams.specs.declared.Chunk.TheVariants.{Bytes, End, Failed}
 use Rattle.streams.specs.declared.Contents.{Contents}
@@ -18,3 +18,11 @@ abbrev pub contents_moved : Option (List ℕ) → Option (List ℕ) → Contents
 contents_moved old new (C.Bytes k) xs = Consumes old new (take k xs) × IsAtEnd new
 contents_moved old new C.TooLong xs = Consumes old new xs
 contents_moved old new (C.Failed e) xs = (k : ℕ) × (k ≤ length xs) × Consumes old new (take k xs)
+
+-- Of a text, the front was written and the rest was not; where Whole holds, all of it was.
+pub record Wrote (old new : Option (List ℕ)) (text : List ℕ) (Whole : Type 0) : Type 0 where
+  pub front : List ℕ
+  pub rest : List ℕ
+  pub appended : Appends old new front
+  pub parts : front ++ rest ≡ text
+  pub all : Whole → rest ≡ []
