@@ -6,8 +6,10 @@
 #![tactic(auto)]
 
 ghost use Rattle.std.specs.Prelude.{true, false, [], ◌≡◌, ◌≤◌, length, take, drop, replicate};
+ghost use Rattle.streams.specs.Moved.{Wrote};
 ghost use Rattle.session.specs.AllLines.{bench_of, after_lines, lines_of, PlayedTo};
 ghost use Rattle.bench_run.specs.Input.{TakenInput, TakenWhole};
+ghost use Rattle.bench_run.specs.Texts.{text_of_lines};
 
 use buffers::{first_image, first_store, keep, question_text};
 use manager::Manager;
@@ -16,9 +18,10 @@ use std::io::{Read, Write};
 use std::rt::Files;
 use streams::{Chunk, Contents};
 
-// Writes the first bytes of a buffer, and answers whether all could be written: the writer decides, so nothing is promised of the answer.
+// Writes the first bytes of a buffer, and answers whether all could be written: the writer decides that. A writer that says what it holds has a front of the bytes, and all where the answer is yes.
 fn print<W: Write>(writer: &mut W, out: &[u8], count: usize) -> bool
     requires { count ≤ length out.now }
+    ensures { Wrote (W.contents writer.old) (W.contents writer.new) (take count out.now) (result ≡ true) }
 {
     streams::write_all(writer, &out[0..count]) == count
 }
@@ -45,6 +48,7 @@ fn answer_lines<W: Write>(
     ensures played_to { PlayedTo ends input.now (bench_of manager image.old store.old) (bench_of result.manager image.new store.new) result.used }
     ensures input_value { 338 ≤ length out.old → result.used ≡ 0 → lines_of ends input.now ≡ [] }
     ensures input_value_2 { 338 ≤ length out.old → result.is_open ≡ true → lines_of ends (drop result.used input.now) ≡ [] }
+    ensures written { Wrote (W.contents writer.old) (W.contents writer.new) (text_of_lines (lines_of ends (take result.used input.now)) (bench_of manager image.old store.old)) (result.is_open ≡ true) }
 {
     let mut next = manager;
     let mut at = 0;
@@ -97,6 +101,7 @@ fn take_input<W: Write>(
     requires { filled ≤ length input.old }
     ensures taken_input { TakenInput (take filled input.old) (bench_of manager image.old store.old) (bench_of result.manager image.new store.new) (take result.kept input.new) }
     ensures taken_whole { 338 ≤ length out.old → result.is_open ≡ true → TakenWhole (take filled input.old) (bench_of manager image.old store.old) (bench_of result.manager image.new store.new) (take result.kept input.new) }
+    ensures written { Wrote (W.contents writer.old) (W.contents writer.new) (text_of_lines (lines_of false (take filled input.old)) (bench_of manager image.old store.old)) ((338 ≤ length out.old) × (result.is_open ≡ true)) }
     ensures kept_bound { result.kept ≤ 4097 }
 {
     let answered = answer_lines(writer, manager, &input[0..filled], false, image, store, out);
@@ -119,6 +124,7 @@ fn end_input<W: Write>(
     out: &mut [u8],
 ) -> Turn
     ensures store_after { 338 ≤ length out.old → lines_of false line.now ≡ [] → bench_of result.manager image.new store.new ≡ after_lines (lines_of true line.now) (bench_of manager image.old store.old) }
+    ensures written { Wrote (W.contents writer.old) (W.contents writer.new) (text_of_lines (lines_of true line.now) (bench_of manager image.old store.old)) ⊥ }
     ensures kept_value { (result.kept ≡ 0) × (result.is_open ≡ false) }
 {
     let answered = answer_lines(writer, manager, line, true, image, store, out);
