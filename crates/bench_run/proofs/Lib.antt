@@ -1,1 +1,2 @@
 mod TextLaws
+mod TurnTexts

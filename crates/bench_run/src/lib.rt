@@ -5,11 +5,13 @@
 // brings, and whether a write took its bytes, is for the reader and the writer to say, and those of the system say nothing but counts: each function that reads or writes says at its contract what that leaves open.
 #![tactic(auto)]
 
-ghost use Rattle.std.specs.Prelude.{true, false, [], ◌≡◌, ◌≤◌, length, take, drop, replicate};
+ghost use Rattle.std.specs.Prelude.{ℕ, true, false, List, [], ◌++◌, ◌≡◌, ◌≤◌, length, take, drop, replicate};
+ghost use Rattle.std.specs.Io.KnownBytes.{Consumes};
 ghost use Rattle.streams.specs.Moved.{Wrote};
 ghost use Rattle.session.specs.AllLines.{bench_of, after_lines, lines_of, PlayedTo};
 ghost use Rattle.bench_run.specs.Input.{TakenInput, TakenWhole};
 ghost use Rattle.bench_run.specs.Texts.{text_of_lines};
+ghost use Rattle.bench_run.specs.Turns.{TookTurn};
 
 use buffers::{first_image, first_store, keep, question_text};
 use manager::Manager;
@@ -149,7 +151,8 @@ fn take_turn<R: Read, W: Write>(
     out: &mut [u8],
 ) -> Turn
     requires { (kept ≤ 4097) × (4097 ≤ length input.old) }
-    ensures { result.kept ≤ 4097 }
+    ensures kept_bound { result.kept ≤ 4097 }
+    ensures turn { 338 ≤ length out.old → (piece : List ℕ) × Consumes (R.remaining reader.old) (R.remaining reader.new) piece × TookTurn (take kept input.old ++ piece) (bench_of manager image.old store.old) (bench_of result.manager image.new store.new) (W.contents writer.old) (W.contents writer.new) result.is_open (take result.kept input.new) }
 {
     match streams::read_some(reader, &mut input[kept..]) {
         Chunk::Bytes(n) => take_input(writer, manager, input, kept + n, image, store, out),
@@ -170,7 +173,8 @@ fn serve<R: Read, W: Write>(
     out: &mut [u8],
 ) -> usize
     requires { (4097 ≤ length input.old) × (image.old ≡ replicate (length image.old) 255) × (store.old ≡ replicate 65536 0) }
-    ensures { result ≤ 4097 }
+    ensures kept_bound { result ≤ 4097 }
+    ensures served { 338 ≤ length out.old → (came : List ℕ) × Consumes (R.remaining reader.old) (R.remaining reader.new) came × Wrote (W.contents writer.old) (W.contents writer.new) (text_of_lines (lines_of true came) (bench_of manager image.old store.old)) ⊥ }
 {
     let mut next = manager;
     let mut kept = 0;
