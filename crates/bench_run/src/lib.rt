@@ -8,9 +8,10 @@
 ghost use Rattle.std.specs.Prelude.{ℕ, true, false, List, [], ◌++◌, ◌≡◌, ◌≤◌, length, take, drop, replicate};
 ghost use Rattle.std.specs.Io.KnownBytes.{Consumes};
 ghost use Rattle.streams.specs.Moved.{Wrote};
+ghost use Rattle.texts.specs.Texts.{question_line};
 ghost use Rattle.session.specs.AllLines.{bench_of, after_lines, lines_of, PlayedTo};
 ghost use Rattle.bench_run.specs.Input.{TakenInput, TakenWhole};
-ghost use Rattle.bench_run.specs.Texts.{text_of_lines};
+ghost use Rattle.bench_run.specs.Texts.{bench_text, text_of_lines};
 ghost use Rattle.bench_run.specs.Turns.{TookTurn};
 
 use buffers::{first_image, first_store, keep, question_text};
@@ -36,8 +37,8 @@ struct Answered {
     is_open: bool,
 }
 
-// Plays the lines of the input, and writes what they print whenever the buffer is full and at the end. The writes decide how far it comes: no line is played after one that failed. Where
-// none failed, and the buffer has room for an answer, no line is left. What stands in the buffer afterwards is left open.
+// Plays the lines of the input, and writes what they print whenever the buffer is full and at the end. The writes decide how far it comes: no line is played after one that failed. A front
+// of what the played lines print is written, and all of it where none failed. Where none failed, and the buffer has room for an answer, no line is left. What stands in the buffer afterwards is left open.
 fn answer_lines<W: Write>(
     writer: &mut W,
     manager: Manager,
@@ -90,7 +91,7 @@ struct Turn {
 }
 
 // Takes the input that came behind the begun line. Nothing waits to be written when it returns. Where a write failed, it says how far the lines were played; else they were all played, and
-// what is kept is the line that is begun then. The bytes of the input behind what is kept, and those of the buffer, are left open.
+// what they print was written, and what is kept is the line that is begun then. The bytes of the input behind what is kept, and those of the buffer, are left open.
 fn take_input<W: Write>(
     writer: &mut W,
     manager: Manager,
@@ -116,7 +117,7 @@ fn take_input<W: Write>(
     }
 }
 
-// The input has ended: the begun line is a line, and it is played whether or not its answer can be written. Left open are the bytes of the buffer.
+// The input has ended: the begun line is a line, and it is played whether or not its answer can be written, of which a front is. Left open are the bytes of the buffer.
 fn end_input<W: Write>(
     writer: &mut W,
     manager: Manager,
@@ -138,8 +139,8 @@ fn end_input<W: Write>(
     }
 }
 
-// Reads once, and takes what came, or the end. The read decides which bytes these are, so what they leave of manager, image, store and input is left open here: `take_input` and
-// `end_input` say it of the bytes that are in the input then.
+// Reads once, and takes what came, or the end. The reader decides which bytes these are: some piece of what it had left, where it says what that is, and of a reader that does not say it,
+// some bytes. What they leave of manager, image, store and input, and what of their text is written, is said of the kept line and that piece.
 fn take_turn<R: Read, W: Write>(
     reader: &mut R,
     writer: &mut W,
@@ -161,8 +162,8 @@ fn take_turn<R: Read, W: Write>(
     }
 }
 
-// All of the input, from the bench's first image and store. Nothing says that it ends, so the turns are counted, from a number that no run uses up. The reads decide what is played, so that is
-// left open: each turn says it of the bytes that it got.
+// All of the input, from the bench's first image and store. Nothing says that it ends, so the turns are counted, from a number that no run uses up. The reads decide what is played:
+// a front of what the reader had left, all of it but where a read or a write failed. What is written is a front of what the lines of that print.
 fn serve<R: Read, W: Write>(
     reader: &mut R,
     writer: &mut W,
@@ -191,10 +192,11 @@ fn serve<R: Read, W: Write>(
     kept
 }
 
-// The session over a plan of n bytes. The reads decide what is played, and the writes what is printed.
+// The session over a plan of n bytes. The reads decide what is played, and the writes how much of its text is written.
 fn play_session<R: Read, W: Write>(reader: &mut R, writer: &mut W, plan: &[u8], n: usize) -> usize
     requires { n ≤ length plan.now }
-    ensures { result ≤ 4097 }
+    ensures kept_bound { result ≤ 4097 }
+    ensures session { (came : List ℕ) × Consumes (R.remaining reader.old) (R.remaining reader.new) came × Wrote (W.contents writer.old) (W.contents writer.new) (bench_text (take n plan.now) came) ⊥ }
 {
     let mut out = [0u8; 65536];
     let opened = session::open(&plan[0..n], &mut out);
@@ -221,17 +223,19 @@ fn play_session<R: Read, W: Write>(reader: &mut R, writer: &mut W, plan: &[u8], 
 
 // "a plan above that sum, over 4,096 bytes or unreadable prints only '?'": whether it could be written is not asked.
 fn unreadable<W: Write>(writer: &mut W) -> usize
-    ensures { result ≡ 0 }
+    ensures result_value { result ≡ 0 }
+    ensures written { Wrote (W.contents writer.old) (W.contents writer.new) question_line ⊥ }
 {
     let text = question_text();
     print(writer, &text, 2);
     0
 }
 
-// Runs the session, and answers how many bytes of a begun line were not taken. What plan.bin holds, what the input is and what can be written is decided outside, so all that is done is left
-// open here.
+// Runs the session, and answers how many bytes of a begun line were not taken. What plan.bin holds, what the input is and what can be written is decided outside: it is the
+// session over some plan, one over 4,096 bytes where it cannot be read, and over some bytes that came, of whose text a front is written.
 pub fn run<F: Files, R: Read, W: Write>(files: &F, reader: &mut R, writer: &mut W) -> usize
-    ensures { result ≤ 4097 }
+    ensures kept_bound { result ≤ 4097 }
+    ensures session { (plan came : List ℕ) × Consumes (R.remaining reader.old) (R.remaining reader.new) came × Wrote (W.contents writer.old) (W.contents writer.new) (bench_text plan came) ⊥ }
 {
     // one byte more than a plan may have, so that a longer one is seen
     let mut plan = [0u8; 4097];

@@ -14,26 +14,29 @@ pub returns-then-not-turn-clause-served : goal.returns-then-not-turn-clause-serv
 returns-then-not-turn-clause-served g c =
     let l = c.loop-turns in
     λ room.
-        let (came, consumed, printed, state, kept) = l.invariant.3 room in
-        let (piece, read, turn) = c.take_turn-turn.ensures.turn (omega (arith, l.invariant.2)) in
-        (came ++ piece, Consumes-trans _ _ _ came piece consumed read, last_turn came _ _ _ _ state printed piece _ _ _ _ _ kept turn)
+    let (came, consumed, printed, state, kept) = l.invariant.3 room in
+    let (piece, read, turn) = c.take_turn-turn.ensures.turn (omega (arith, l.invariant.2)) in
+    (came ++ piece, Consumes-trans _ _ _ came piece consumed read, last_turn came _ _ _ _ state printed piece _ _ _ _ _ kept turn)
 
 pub loop-turns-preserved : goal.loop-turns-preserved
 loop-turns-preserved g c =
-    let l = c.loop-turns in
-    (search rules, search rules, search rules, λ room.
-        let (came, consumed, printed, state, kept) = l.invariant.3 room in
-        let (piece, read, turn) = c.take_turn-turn.ensures.turn (omega (arith, l.invariant.2)) in
-        (
-          came ++ piece,
-          Consumes-trans _ _ _ came piece consumed read,
-          turn_printed came _ _ _ _ state printed piece _ _ _ _ _ kept turn (search rules),
-          turn_state came _ _ _ _ state printed piece _ _ _ _ _ kept turn (search rules),
-          turn_kept came _ _ _ _ state printed piece _ _ _ _ _ kept turn (search rules),
-        ))
+    let l = c.loop-turns in (
+      search rules,
+      search rules,
+      search rules,
+      λ room.
+          let (came, consumed, printed, state, kept) = l.invariant.3 room in
+          let (piece, read, turn) = c.take_turn-turn.ensures.turn (omega (arith, l.invariant.2)) in (
+            came ++ piece,
+            Consumes-trans _ _ _ came piece consumed read,
+            turn_printed came _ _ _ _ state printed piece _ _ _ _ _ kept turn (search rules),
+            turn_state came _ _ _ _ state printed piece _ _ _ _ _ kept turn (search rules),
+            turn_kept came _ _ _ _ state printed piece _ _ _ _ _ kept turn (search rules),
+          ),
+    )
 
 pub returns-clause-served : goal.returns-clause-served
 returns-clause-served g c =
     λ room.
-        let (came, consumed, printed, state, kept) = c.loop-turns.invariant.3 room in
-        (came, consumed, turns_end came _ _ _ _ state printed)
+    let (came, consumed, printed, state, kept) = c.loop-turns.invariant.3 room in
+    (came, consumed, turns_end came _ _ _ _ state printed)

@@ -10,10 +10,10 @@ invariant-loop-turns g l = (l.kept ≤ 4097)
     × (length l.input ≡ length l.initial.input)
     × (length l.out ≡ length l.initial.out)
     × (338 ≤ length l.initial.out → (came : List ℕ)
-        × Consumes (g.R.Read.remaining l.initial.reader) (g.R.Read.remaining l.reader) came
-        × Appends (g.W.Write.contents l.initial.writer) (g.W.Write.contents l.writer) (text_of_lines (lines_of false came) (bench_of l.initial.next l.initial.image l.initial.store))
-        × (bench_of l.next l.image l.store ≡ after_lines (lines_of false came) (bench_of l.initial.next l.initial.image l.initial.store))
-        × (take l.kept l.input ≡ take 4097 (begun_line came)))
+    × Consumes (g.R.Read.remaining l.initial.reader) (g.R.Read.remaining l.reader) came
+    × Appends (g.W.Write.contents l.initial.writer) (g.W.Write.contents l.writer) (text_of_lines (lines_of false came) (bench_of l.initial.next l.initial.image l.initial.store))
+    × (bench_of l.next l.image l.store ≡ after_lines (lines_of false came) (bench_of l.initial.next l.initial.image l.initial.store))
+    × (take l.kept l.input ≡ take 4097 (begun_line came)))
 
 abbrev pub decreases-loop-turns : goal.decreases-loop-turns
 decreases-loop-turns g l = l.turns
