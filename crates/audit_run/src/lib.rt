@@ -9,6 +9,7 @@ ghost use Rattle.std.specs.Io.KnownBytes.{Appends};
 ghost use Rattle.streams.specs.Moved.{Wrote};
 ghost use Rattle.manager.specs.Load.{loaded_manager};
 ghost use Rattle.rows.specs.Rows.{rows_text};
+ghost use Rattle.texts.specs.Texts.{question_line};
 ghost use Rattle.audits.specs.Audits.{audit_rows, jobs_in};
 ghost use Rattle.audits.specs.laws.LoadLaws.{Loaded};
 ghost use Rattle.audits.specs.laws.TableLaws.{Tabled};
@@ -77,7 +78,8 @@ fn write_audit<W: Write>(
 
 // A plan that cannot be read, or jobs: whether it could be written is not asked.
 fn unreadable<W: Write>(writer: &mut W) -> usize
-    ensures { result ≡ 0 }
+    ensures result_value { result ≡ 0 }
+    ensures written { Wrote (W.contents writer.old) (W.contents writer.new) question_line ⊥ }
 {
     let text = question_text();
     print(writer, &text, 2);

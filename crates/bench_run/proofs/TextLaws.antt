@@ -1,6 +1,6 @@
 -- What the lines that are played of an input print.
-use Rattle.std.specs.Prelude.{ℕ, suc, ◌+◌, ◌≤◌, ◌<◌, Bool, true, false, List, [], ◌∷◌, ◌++◌, ◌≡◌, ltb, length, take, drop}
-use Rattle.std.proofs.Common.{refl, sym, ap, subst, ◌∙◌, true≢false, arith, take-append-drop, length-append, length-take-le, lt-ltb, take_all, take-add, append_assoc, append-nil}
+use Rattle.std.specs.Prelude.{ℕ, suc, ◌+◌, ◌<◌, Bool, true, false, List, [], ◌∷◌, ◌++◌, ◌≡◌, ltb, length, take, drop}
+use Rattle.std.proofs.Common.{refl, sym, ap, ◌∙◌, true≢false, arith, take-append-drop, length-append, length-take-le, lt-ltb, take_all, take-add, append_assoc, append-nil}
 use Rattle.std.specs.declared.option.Option.{Option}
 use Rattle.std.proofs.KnownBytes.{Appends-nil}
 use Rattle.streams.specs.Moved.{Wrote}

@@ -1,5 +1,5 @@
-use Rattle.std.proofs.Common.{◌≤◌, ◌++◌, [], length, refl, rules, arith}
-use Rattle.std.proofs.KnownBytes.{Consumes-nil, Consumes-trans, Appends-nil}
+use Rattle.std.proofs.Common.{◌++◌, [], refl, rules, arith}
+use Rattle.std.proofs.KnownBytes.{Consumes-nil, Consumes-trans}
 use Rattle.session.specs.AllLines.{bench_of}
 use Rattle.bench_run.proofs.TurnTexts.{no_turn, turns_end, last_turn, turn_printed, turn_state, turn_kept}
 use Rattle.bench_run.proofs.serve.Goals as goal
