@@ -1,5 +1,5 @@
 #![tactic(auto)]
 
-fn main() {
-    audit_run::run();
+fn main(rt: HostRuntime) {
+    audit_run::run(&rt, &mut rt.stdin(), &mut rt.stdout());
 }

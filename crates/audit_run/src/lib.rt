@@ -1,11 +1,16 @@
-// The auditor's program: it reads plan.bin in the current directory and the jobs on standard input, and prints the audit.
+// The auditor's program: it reads plan.bin in the current directory and the jobs that a reader brings, the standard input, and prints the audit.
 //
-// What is printed into a buffer, and what is left then, is an equation (`audits::fill`); which bytes a read brings, and whether a write took its bytes, is for the C library to say, whose contracts bound counts alone: each
+// What is printed into a buffer, and what is left then, is an equation (`audits::fill`); which bytes a read brings, and whether a write took its bytes, is for the reader and the writer to say, and those of the system say nothing but counts: each
 // function that reads or writes says at its contract what that leaves open.
 #![tactic(auto)]
 
-ghost use Rattle.std.specs.Prelude.{true, ◌≡◌, ◌≤◌, length};
-ghost use Rattle.audits.specs.Audits.{jobs_in};
+ghost use Rattle.std.specs.Prelude.{ℕ, true, List, ◌≡◌, ◌<◌, ◌≤◌, IfSome, length, take};
+ghost use Rattle.std.specs.Io.KnownBytes.{Appends};
+ghost use Rattle.streams.specs.Moved.{Wrote};
+ghost use Rattle.manager.specs.Load.{loaded_manager};
+ghost use Rattle.rows.specs.Rows.{rows_text};
+ghost use Rattle.texts.specs.Texts.{question_line};
+ghost use Rattle.audits.specs.Audits.{audit_rows, jobs_in};
 ghost use Rattle.audits.specs.laws.LoadLaws.{Loaded};
 ghost use Rattle.audits.specs.laws.TableLaws.{Tabled};
 ghost use Rattle.session.specs.AllLines.{lines_of};
@@ -13,29 +18,38 @@ ghost use Rattle.session.specs.AllLines.{lines_of};
 use audits::fill::{Place, fill, is_finished};
 use audits::{Table, table_of};
 use buffers::question_text;
-use libc::{STDIN_FILENO, STDOUT_FILENO};
 use manager::Manager;
+use std::io::{Read, Write};
+use std::rt::Files;
 use streams::Contents;
 
-// Writes the first bytes of a buffer, and answers whether all could be written: the C library decides, so nothing is promised of the answer.
-fn print(out: &[u8], count: usize) -> bool
+// Writes the first bytes of a buffer, and answers whether all could be written: the writer decides that. A writer that says what it holds has a front of the bytes, and all where the answer is yes.
+fn print<W: Write>(writer: &mut W, out: &[u8], count: usize) -> bool
     requires { count ≤ length out.now }
+    ensures { Wrote (W.contents writer.old) (W.contents writer.new) (take count out.now) (result ≡ true) }
 {
-    streams::write_all(STDOUT_FILENO, &out[0..count]) == count
+    streams::write_all(writer, &out[0..count]) == count
 }
 
 // Writes the audit of the input, as many rows at a time as have room, and answers how many bytes of the input were audited: all, or none where a write failed. What stands in the buffer each time, and what is
-// left then, is said by `fill`; the writes decide how far it comes. Nothing bounds the number of rows, so the turns are counted from a number that no run uses up.
-fn write_rows(manager: Manager, table: Table, input: &[u8], out: &mut [u8]) -> usize
+// left then, is said by `fill`; the writes decide how far it comes, and a front of the audit is what they took, all of it where bytes were audited. Nothing bounds the number of rows, so the turns are counted from a number that no run uses up.
+fn write_rows<W: Write>(
+    writer: &mut W,
+    manager: Manager,
+    table: Table,
+    input: &[u8],
+    out: &mut [u8],
+) -> usize
     requires { Loaded manager × Tabled manager (jobs_in manager.plan.device_count (lines_of true input.now)) table }
-    ensures { result ≤ length input.now }
+    ensures used { result ≤ length input.now }
+    ensures written { Wrote (W.contents writer.old) (W.contents writer.new) (rows_text (audit_rows manager (lines_of true input.now))) (0 < result) }
 {
     let mut place = Place::first();
     let mut turns = u64::MAX;
     while turns > 0 {
         let filled = fill(manager, table, input, place, out);
         place = filled.place;
-        if !print(out, filled.end) {
+        if !print(writer, out, filled.end) {
             return 0;
         }
         if is_finished(place, input.len()) {
@@ -47,61 +61,79 @@ fn write_rows(manager: Manager, table: Table, input: &[u8], out: &mut [u8]) -> u
 }
 
 // The audit of jobs of n bytes: each is set beside all others.
-fn write_audit(manager: Manager, input: &[u8], n: usize, out: &mut [u8]) -> usize
+fn write_audit<W: Write>(
+    writer: &mut W,
+    manager: Manager,
+    input: &[u8],
+    n: usize,
+    out: &mut [u8],
+) -> usize
     requires { Loaded manager × (n ≤ length input.now) }
-    ensures { result ≤ n }
+    ensures used { result ≤ n }
+    ensures written { Wrote (W.contents writer.old) (W.contents writer.new) (rows_text (audit_rows manager (lines_of true (take n input.now)))) (0 < result) }
 {
     let table = table_of(manager, &input[0..n]);
-    write_rows(manager, table, &input[0..n], out)
+    write_rows(writer, manager, table, &input[0..n], out)
 }
 
 // A plan that cannot be read, or jobs: whether it could be written is not asked.
-fn unreadable() -> usize
-    ensures { result ≡ 0 }
+fn unreadable<W: Write>(writer: &mut W) -> usize
+    ensures result_value { result ≡ 0 }
+    ensures written { Wrote (W.contents writer.old) (W.contents writer.new) question_line ⊥ }
 {
     let text = question_text();
-    print(&text, 2);
+    print(writer, &text, 2);
     0
 }
 
 // Reads the jobs, all of them.
-fn audit_jobs(manager: Manager, out: &mut [u8]) -> usize
+fn audit_jobs<R: Read, W: Write>(
+    reader: &mut R,
+    writer: &mut W,
+    manager: Manager,
+    out: &mut [u8],
+) -> usize
     requires { Loaded manager }
-    ensures { result ≤ 262144 }
+    ensures used { result ≤ 262144 }
+    ensures written { 0 < result → IfSome (R.remaining reader.old) (λ jobs. Appends (W.contents writer.old) (W.contents writer.new) (rows_text (audit_rows manager (lines_of true jobs)))) }
 {
     // one byte more than may come, so that more is seen
     let mut input = [0u8; 262144];
-    match streams::read_to_end(STDIN_FILENO, &mut input) {
-        Contents::Bytes(n) => write_audit(manager, &input, n, out),
-        Contents::TooLong => unreadable(),
-        Contents::Failed(_) => unreadable(),
+    match streams::read_to_end(reader, &mut input) {
+        Contents::Bytes(n) => write_audit(writer, manager, &input, n, out),
+        Contents::TooLong => unreadable(writer),
+        Contents::Failed(_) => unreadable(writer),
     }
 }
 
 // A plan of n bytes is loaded first: the jobs of one that is refused are not read.
-fn audit_plan(plan: &[u8], n: usize) -> usize
+fn audit_plan<R: Read, W: Write>(reader: &mut R, writer: &mut W, plan: &[u8], n: usize) -> usize
     requires { n ≤ length plan.now }
-    ensures { result ≤ 262144 }
+    ensures used { result ≤ 262144 }
+    ensures accepted { 0 < result → Loaded (loaded_manager (take n plan.now)) }
+    ensures written { 0 < result → IfSome (R.remaining reader.old) (λ jobs. Appends (W.contents writer.old) (W.contents writer.new) (rows_text (audit_rows (loaded_manager (take n plan.now)) (lines_of true jobs)))) }
 {
     let mut out = [0u8; 65536];
     let opened = session::open(&plan[0..n], &mut out);
     if 0 < opened.written {
-        print(&out, opened.written);
+        print(writer, &out, opened.written);
         return 0;
     }
     let manager = opened.manager;
-    audit_jobs(manager, &mut out)
+    audit_jobs(reader, writer, manager, &mut out)
 }
 
-// Runs the audit, and answers how many bytes of the jobs were audited. What plan.bin holds, what the jobs are and what can be written is decided outside, so all that is done is left open here.
-pub fn run() -> usize
-    ensures { result ≤ 262144 }
+// Runs the audit, and answers how many bytes of the jobs were audited. What plan.bin holds is decided outside, and what the jobs are and what
+// can be written; a reader and a writer that say their bytes, as those over memory do, get the audit of these jobs, whole, where bytes were audited.
+pub fn run<F: Files, R: Read, W: Write>(files: &F, reader: &mut R, writer: &mut W) -> usize
+    ensures used { result ≤ 262144 }
+    ensures written { 0 < result → (plan : List ℕ) × Loaded (loaded_manager plan) × IfSome (R.remaining reader.old) (λ jobs. Appends (W.contents writer.old) (W.contents writer.new) (rows_text (audit_rows (loaded_manager plan) (lines_of true jobs)))) }
 {
     // one byte more than a plan may have, so that a longer one is seen
     let mut plan = [0u8; 4097];
-    match streams::read_file(b"plan.bin", &mut plan) {
-        Contents::Bytes(n) => audit_plan(&plan, n),
-        Contents::TooLong => unreadable(),
-        Contents::Failed(_) => unreadable(),
+    match streams::read_file(files, "plan.bin", &mut plan) {
+        Contents::Bytes(n) => audit_plan(reader, writer, &plan, n),
+        Contents::TooLong => unreadable(writer),
+        Contents::Failed(_) => unreadable(writer),
     }
 }

@@ -1,5 +1,5 @@
 #![tactic(auto)]
 
-fn main() {
-    bench_run::run();
+fn main(rt: HostRuntime) {
+    bench_run::run(&rt, &mut rt.stdin(), &mut rt.stdout());
 }

@@ -1,2 +1,4 @@
 pub mod Input
+pub mod Texts
+pub mod Turns
 pub mod laws

@@ -1,25 +1,32 @@
-// The bench program: it reads plan.bin in the current directory and plays the session on standard input.
+// The bench program: it reads plan.bin in the current directory and plays the session that a reader brings, the standard input.
 // Programs over it differ only in the files that they are run on.
 //
 // What is done with bytes once they are in a buffer is an equation: what the lines of the input leave of manager, image and store, and what is kept of a begun line. Which bytes a read
-// brings, and whether a write took its bytes, is for the C library to say, whose contracts bound counts alone: each function that reads or writes says at its contract what that leaves open.
+// brings, and whether a write took its bytes, is for the reader and the writer to say, and those of the system say nothing but counts: each function that reads or writes says at its contract what that leaves open.
 #![tactic(auto)]
 
-ghost use Rattle.std.specs.Prelude.{true, false, [], ◌≡◌, ◌≤◌, length, take, drop, replicate};
+ghost use Rattle.std.specs.Prelude.{ℕ, true, false, List, [], ◌++◌, ◌≡◌, ◌≤◌, length, take, drop, replicate};
+ghost use Rattle.std.specs.Io.KnownBytes.{Consumes};
+ghost use Rattle.streams.specs.Moved.{Wrote};
+ghost use Rattle.texts.specs.Texts.{question_line};
 ghost use Rattle.session.specs.AllLines.{bench_of, after_lines, lines_of, PlayedTo};
 ghost use Rattle.bench_run.specs.Input.{TakenInput, TakenWhole};
+ghost use Rattle.bench_run.specs.Texts.{bench_text, text_of_lines};
+ghost use Rattle.bench_run.specs.Turns.{TookTurn};
 
 use buffers::{first_image, first_store, keep, question_text};
-use libc::{STDIN_FILENO, STDOUT_FILENO};
 use manager::Manager;
 use session::fold::play_lines;
+use std::io::{Read, Write};
+use std::rt::Files;
 use streams::{Chunk, Contents};
 
-// Writes the first bytes of a buffer, and answers whether all could be written: the C library decides, so nothing is promised of the answer.
-fn print(out: &[u8], count: usize) -> bool
+// Writes the first bytes of a buffer, and answers whether all could be written: the writer decides that. A writer that says what it holds has a front of the bytes, and all where the answer is yes.
+fn print<W: Write>(writer: &mut W, out: &[u8], count: usize) -> bool
     requires { count ≤ length out.now }
+    ensures { Wrote (W.contents writer.old) (W.contents writer.new) (take count out.now) (result ≡ true) }
 {
-    streams::write_all(STDOUT_FILENO, &out[0..count]) == count
+    streams::write_all(writer, &out[0..count]) == count
 }
 
 // The next manager, how much of the input was used, and whether the answers could be written.
@@ -30,9 +37,10 @@ struct Answered {
     is_open: bool,
 }
 
-// Plays the lines of the input, and writes what they print whenever the buffer is full and at the end. The writes decide how far it comes: no line is played after one that failed. Where
-// none failed, and the buffer has room for an answer, no line is left. What stands in the buffer afterwards is left open.
-fn answer_lines(
+// Plays the lines of the input, and writes what they print whenever the buffer is full and at the end. The writes decide how far it comes: no line is played after one that failed. A front
+// of what the played lines print is written, and all of it where none failed. Where none failed, and the buffer has room for an answer, no line is left. What stands in the buffer afterwards is left open.
+fn answer_lines<W: Write>(
+    writer: &mut W,
     manager: Manager,
     input: &[u8],
     ends: bool,
@@ -43,6 +51,7 @@ fn answer_lines(
     ensures played_to { PlayedTo ends input.now (bench_of manager image.old store.old) (bench_of result.manager image.new store.new) result.used }
     ensures input_value { 338 ≤ length out.old → result.used ≡ 0 → lines_of ends input.now ≡ [] }
     ensures input_value_2 { 338 ≤ length out.old → result.is_open ≡ true → lines_of ends (drop result.used input.now) ≡ [] }
+    ensures written { Wrote (W.contents writer.old) (W.contents writer.new) (text_of_lines (lines_of ends (take result.used input.now)) (bench_of manager image.old store.old)) (result.is_open ≡ true) }
 {
     let mut next = manager;
     let mut at = 0;
@@ -58,7 +67,7 @@ fn answer_lines(
             };
         }
         at += used;
-        if !print(out, progress.written) {
+        if !print(writer, out, progress.written) {
             return Answered {
                 manager: next,
                 used: at,
@@ -82,8 +91,9 @@ struct Turn {
 }
 
 // Takes the input that came behind the begun line. Nothing waits to be written when it returns. Where a write failed, it says how far the lines were played; else they were all played, and
-// what is kept is the line that is begun then. The bytes of the input behind what is kept, and those of the buffer, are left open.
-fn take_input(
+// what they print was written, and what is kept is the line that is begun then. The bytes of the input behind what is kept, and those of the buffer, are left open.
+fn take_input<W: Write>(
+    writer: &mut W,
     manager: Manager,
     input: &mut [u8],
     filled: usize,
@@ -94,9 +104,10 @@ fn take_input(
     requires { filled ≤ length input.old }
     ensures taken_input { TakenInput (take filled input.old) (bench_of manager image.old store.old) (bench_of result.manager image.new store.new) (take result.kept input.new) }
     ensures taken_whole { 338 ≤ length out.old → result.is_open ≡ true → TakenWhole (take filled input.old) (bench_of manager image.old store.old) (bench_of result.manager image.new store.new) (take result.kept input.new) }
+    ensures written { Wrote (W.contents writer.old) (W.contents writer.new) (text_of_lines (lines_of false (take filled input.old)) (bench_of manager image.old store.old)) ((338 ≤ length out.old) × (result.is_open ≡ true)) }
     ensures kept_bound { result.kept ≤ 4097 }
 {
-    let answered = answer_lines(manager, &input[0..filled], false, image, store, out);
+    let answered = answer_lines(writer, manager, &input[0..filled], false, image, store, out);
     let next = answered.manager;
     let kept = keep(input, answered.used, filled);
     Turn {
@@ -106,8 +117,9 @@ fn take_input(
     }
 }
 
-// The input has ended: the begun line is a line, and it is played whether or not its answer can be written. Left open are the bytes of the buffer.
-fn end_input(
+// The input has ended: the begun line is a line, and it is played whether or not its answer can be written, of which a front is. Left open are the bytes of the buffer.
+fn end_input<W: Write>(
+    writer: &mut W,
     manager: Manager,
     line: &[u8],
     image: &mut [u8],
@@ -115,9 +127,10 @@ fn end_input(
     out: &mut [u8],
 ) -> Turn
     ensures store_after { 338 ≤ length out.old → lines_of false line.now ≡ [] → bench_of result.manager image.new store.new ≡ after_lines (lines_of true line.now) (bench_of manager image.old store.old) }
+    ensures written { Wrote (W.contents writer.old) (W.contents writer.new) (text_of_lines (lines_of true line.now) (bench_of manager image.old store.old)) ⊥ }
     ensures kept_value { (result.kept ≡ 0) × (result.is_open ≡ false) }
 {
-    let answered = answer_lines(manager, line, true, image, store, out);
+    let answered = answer_lines(writer, manager, line, true, image, store, out);
     let next = answered.manager;
     Turn {
         manager: next,
@@ -126,9 +139,11 @@ fn end_input(
     }
 }
 
-// Reads once, and takes what came, or the end. The read decides which bytes these are, so what they leave of manager, image, store and input is left open here: `take_input` and
-// `end_input` say it of the bytes that are in the input then.
-fn take_turn(
+// Reads once, and takes what came, or the end. The reader decides which bytes these are: some piece of what it had left, where it says what that is, and of a reader that does not say it,
+// some bytes. What they leave of manager, image, store and input, and what of their text is written, is said of the kept line and that piece.
+fn take_turn<R: Read, W: Write>(
+    reader: &mut R,
+    writer: &mut W,
     manager: Manager,
     kept: usize,
     input: &mut [u8],
@@ -137,18 +152,21 @@ fn take_turn(
     out: &mut [u8],
 ) -> Turn
     requires { (kept ≤ 4097) × (4097 ≤ length input.old) }
-    ensures { result.kept ≤ 4097 }
+    ensures kept_bound { result.kept ≤ 4097 }
+    ensures turn { 338 ≤ length out.old → (piece : List ℕ) × Consumes (R.remaining reader.old) (R.remaining reader.new) piece × TookTurn (take kept input.old ++ piece) (bench_of manager image.old store.old) (bench_of result.manager image.new store.new) (W.contents writer.old) (W.contents writer.new) result.is_open (take result.kept input.new) }
 {
-    match streams::read_some(STDIN_FILENO, &mut input[kept..]) {
-        Chunk::Bytes(n) => take_input(manager, input, kept + n, image, store, out),
-        Chunk::End => end_input(manager, &input[0..kept], image, store, out),
-        Chunk::Failed(_) => end_input(manager, &input[0..kept], image, store, out),
+    match streams::read_some(reader, &mut input[kept..]) {
+        Chunk::Bytes(n) => take_input(writer, manager, input, kept + n, image, store, out),
+        Chunk::End => end_input(writer, manager, &input[0..kept], image, store, out),
+        Chunk::Failed(_) => end_input(writer, manager, &input[0..kept], image, store, out),
     }
 }
 
-// All of the input, from the bench's first image and store. Nothing says that it ends, so the turns are counted, from a number that no run uses up. The reads decide what is played, so that is
-// left open: each turn says it of the bytes that it got.
-fn serve(
+// All of the input, from the bench's first image and store. Nothing says that it ends, so the turns are counted, from a number that no run uses up. The reads decide what is played:
+// a front of what the reader had left, all of it but where a read or a write failed. What is written is a front of what the lines of that print.
+fn serve<R: Read, W: Write>(
+    reader: &mut R,
+    writer: &mut W,
     manager: Manager,
     input: &mut [u8],
     image: &mut [u8],
@@ -156,13 +174,14 @@ fn serve(
     out: &mut [u8],
 ) -> usize
     requires { (4097 ≤ length input.old) × (image.old ≡ replicate (length image.old) 255) × (store.old ≡ replicate 65536 0) }
-    ensures { result ≤ 4097 }
+    ensures kept_bound { result ≤ 4097 }
+    ensures served { 338 ≤ length out.old → (came : List ℕ) × Consumes (R.remaining reader.old) (R.remaining reader.new) came × Wrote (W.contents writer.old) (W.contents writer.new) (text_of_lines (lines_of true came) (bench_of manager image.old store.old)) ⊥ }
 {
     let mut next = manager;
     let mut kept = 0;
     let mut turns = u64::MAX;
     while turns > 0 {
-        let turn = take_turn(next, kept, input, image, store, out);
+        let turn = take_turn(reader, writer, next, kept, input, image, store, out);
         next = turn.manager;
         kept = turn.kept;
         if !turn.is_open {
@@ -173,15 +192,16 @@ fn serve(
     kept
 }
 
-// The session over a plan of n bytes. The reads decide what is played, and the writes what is printed.
-fn play_session(plan: &[u8], n: usize) -> usize
+// The session over a plan of n bytes. The reads decide what is played, and the writes how much of its text is written.
+fn play_session<R: Read, W: Write>(reader: &mut R, writer: &mut W, plan: &[u8], n: usize) -> usize
     requires { n ≤ length plan.now }
-    ensures { result ≤ 4097 }
+    ensures kept_bound { result ≤ 4097 }
+    ensures session { (came : List ℕ) × Consumes (R.remaining reader.old) (R.remaining reader.new) came × Wrote (W.contents writer.old) (W.contents writer.new) (bench_text (take n plan.now) came) ⊥ }
 {
     let mut out = [0u8; 65536];
     let opened = session::open(&plan[0..n], &mut out);
     if 0 < opened.written {
-        print(&out, opened.written);
+        print(writer, &out, opened.written);
         return 0;
     }
     let manager = opened.manager;
@@ -191,6 +211,8 @@ fn play_session(plan: &[u8], n: usize) -> usize
     // a begun line, and what one read brings behind it
     let mut input = [0u8; 69633];
     serve(
+        reader,
+        writer,
         manager,
         &mut input,
         &mut image[0..sum],
@@ -200,24 +222,26 @@ fn play_session(plan: &[u8], n: usize) -> usize
 }
 
 // "a plan above that sum, over 4,096 bytes or unreadable prints only '?'": whether it could be written is not asked.
-fn unreadable() -> usize
-    ensures { result ≡ 0 }
+fn unreadable<W: Write>(writer: &mut W) -> usize
+    ensures result_value { result ≡ 0 }
+    ensures written { Wrote (W.contents writer.old) (W.contents writer.new) question_line ⊥ }
 {
     let text = question_text();
-    print(&text, 2);
+    print(writer, &text, 2);
     0
 }
 
-// Runs the session, and answers how many bytes of a begun line were not taken. What plan.bin holds, what the input is and what can be written is decided outside, so all that is done is left
-// open here.
-pub fn run() -> usize
-    ensures { result ≤ 4097 }
+// Runs the session, and answers how many bytes of a begun line were not taken. What plan.bin holds, what the input is and what can be written is decided outside: it is the
+// session over some plan, one over 4,096 bytes where it cannot be read, and over some bytes that came, of whose text a front is written.
+pub fn run<F: Files, R: Read, W: Write>(files: &F, reader: &mut R, writer: &mut W) -> usize
+    ensures kept_bound { result ≤ 4097 }
+    ensures session { (plan came : List ℕ) × Consumes (R.remaining reader.old) (R.remaining reader.new) came × Wrote (W.contents writer.old) (W.contents writer.new) (bench_text plan came) ⊥ }
 {
     // one byte more than a plan may have, so that a longer one is seen
     let mut plan = [0u8; 4097];
-    match streams::read_file(b"plan.bin", &mut plan) {
-        Contents::Bytes(n) => play_session(&plan, n),
-        Contents::TooLong => unreadable(),
-        Contents::Failed(_) => unreadable(),
+    match streams::read_file(files, "plan.bin", &mut plan) {
+        Contents::Bytes(n) => play_session(reader, writer, &plan, n),
+        Contents::TooLong => unreadable(writer),
+        Contents::Failed(_) => unreadable(writer),
     }
 }

@@ -1,7 +1,12 @@
-use native.Mathlib.Omega.{arith}
+use Rattle.std.proofs.Common.{◌≡◌, ◌-◌, arith}
 use Rattle.audit_run.specs.laws.OpenLaws.{open_loaded}
-use borrow.Author.Rules.{rules}
 use Rattle.audit_run.proofs.audit_plan.Goals as goal
 
 pub audit_jobs-requires : goal.audit_jobs-requires
-audit_jobs-requires c = let o = c.«open».ensures in rw o.0 (open_loaded _ _ _ (omega arith) (omega arith) o.1.0.0.ends)
+audit_jobs-requires g c = let o = c.open-opened.ensures in rw o.manager_value (open_loaded _ _ _ (omega arith) (omega arith) o.appended.0.ends)
+
+pub returns-clause-accepted : goal.returns-clause-accepted
+returns-clause-accepted g c =
+    let o = c.open-opened.ensures in
+    let same : c.args.n - 0 ≡ c.args.n = omega arith in
+    λ _. rw (← same) (open_loaded _ _ _ (omega arith) (omega arith) o.appended.0.ends)

@@ -1,12 +1,19 @@
-use Prim.Native.Nat.{◌≤◌}
-use mathlib.Core.Path.{◌≡◌, refl}
-use lib.ListN.{length}
-use native.Mathlib.Omega.{arith}
-use borrow.Author.Rules.{rules}
+use Rattle.std.proofs.Common.{◌≤◌, length, ◌≡◌, ℕ, List, false, take}
+use Rattle.std.specs.Io.KnownBytes.{Appends, Consumes}
+use Rattle.session.specs.AllLines.{bench_of, after_lines, lines_of, begun_line}
+use Rattle.bench_run.specs.Texts.{text_of_lines}
 use Rattle.bench_run.proofs.serve.Given as goal
 
+-- the lines of what came that have an end were played and printed, and the line that is begun is kept
 abbrev pub invariant-loop-turns : goal.invariant-loop-turns
-invariant-loop-turns l = (l.kept ≤ 4097) × (length l.input ≡ length l.initial.input) × (length l.image ≡ length l.initial.image) × (length l.store ≡ length l.initial.store) × (length l.out ≡ length l.initial.out)
+invariant-loop-turns g l = (l.kept ≤ 4097)
+    × (length l.input ≡ length l.initial.input)
+    × (length l.out ≡ length l.initial.out)
+    × (338 ≤ length l.initial.out → (came : List ℕ)
+    × Consumes (g.R.Read.remaining l.initial.reader) (g.R.Read.remaining l.reader) came
+    × Appends (g.W.Write.contents l.initial.writer) (g.W.Write.contents l.writer) (text_of_lines (lines_of false came) (bench_of l.initial.next l.initial.image l.initial.store))
+    × (bench_of l.next l.image l.store ≡ after_lines (lines_of false came) (bench_of l.initial.next l.initial.image l.initial.store))
+    × (take l.kept l.input ≡ take 4097 (begun_line came)))
 
 abbrev pub decreases-loop-turns : goal.decreases-loop-turns
-decreases-loop-turns l = l.turns
+decreases-loop-turns g l = l.turns

@@ -25,7 +25,7 @@ after_pieces [] begun b = after_lines (lines_of true begun) b
 after_pieces (p ∷ ps) begun b = let x = begun ++ p in after_pieces ps (take 4097 (begun_line x)) (after_lines (lines_of false x) b)
 
 -- a line over 4,096 bytes leaves everything
-long_line : (l : List ℕ) (b : BenchState) → 4096 < length l → played_on l b ≡ b
+pub long_line : (l : List ℕ) (b : BenchState) → 4096 < length l → played_on l b ≡ b
 unfolding played_manager played_memory line_of
 long_line l b h = rw (lt-ltb 4096 (length l) h)
 
@@ -70,7 +70,7 @@ module _ (l : List ℕ) (none : lines_of false l ≡ []) where
           take-append-le 4097 front f (omega arith) ∙ take_all 4097 front (omega arith) ∙ sym (take-append-le 4097 l f (omega arith))
       begun (n ∷ ns) = refl
 
-  enough : (ends : Bool) (y : List ℕ) (b : BenchState) →
+  pub enough : (ends : Bool) (y : List ℕ) (b : BenchState) →
       (after_lines (lines_of ends (front ++ y)) b ≡ after_lines (lines_of ends (l ++ y)) b) × (take 4097 (begun_line (front ++ y)) ≡ take 4097 (begun_line (l ++ y)))
   enough ends y b =
       by_leb (length l) 4097

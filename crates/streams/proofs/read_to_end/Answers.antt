@@ -1,15 +1,9 @@
-use native.Mathlib.Omega.{arith}
-use borrow.Author.Rules.{rules}
-use Prim.Native.Nat.{◌≤◌, ◌-◌}
-use lib.ListN.{length}
-use mathlib.Core.Path.{◌≡◌}
+use Rattle.std.proofs.Common.{arith, rules, length-append, length-take-le}
+use Rattle.streams.proofs.Moving.{read_more}
 use Rattle.streams.proofs.read_to_end.Goals as goal
 
-pub overflow_add-done : goal.overflow_add-done
-overflow_add-done c = let h = rw c.in-Bytes.is at c.read_some.ensures in omega (arith, h.0, h.1)
-
-pub loop-done-smaller : goal.loop-done-smaller
-loop-done-smaller c = let h = rw c.in-Bytes.is at c.read_some.ensures in omega (arith, h.0, h.1)
-
 pub loop-done-preserved : goal.loop-done-preserved
-loop-done-preserved c = let h = rw c.in-Bytes.is at c.read_some.ensures in (omega (arith, h.0, h.1), search rules)
+loop-done-preserved g c =
+    let read = c.in-Bytes.ensures in
+    let l = c.loop-done in
+    (simp length-append (omega (arith, length-take-le l.done l.buf l.invariant.0, read.within.1)), search rules, read_more _ _ _ l.buf c.read_some.new.buf _ l.done c.in-Bytes.n l.invariant.0 read.within.1 l.invariant.2 read.moved)

@@ -1,0 +1,3 @@
+mod TextLaws
+mod TurnTexts
+mod SessionTexts
