@@ -12,7 +12,7 @@ use Rattle.rules.specs.History.{no_tally, History, with_core, submitted}
 use Rattle.rules.specs.Layout.{Layout, layout_of}
 use Rattle.rules.specs.Machine.{Core, set_job, need, holds, begun, begin, cancel_if, cancel, release}
 use Rattle.rules.proofs.laws.RankLaws.{AgesApart}
-use Rattle.rules.proofs.laws.SecondHalf.{Busy}
+use Rattle.rules.proofs.laws.Suspends.{Busy}
 use Rattle.state.specs.Fresh.{no_waits, fresh_area}
 use Rattle.state.specs.declared.Device.{Device}
 use Rattle.state.specs.declared.DeviceState.TheVariants.{LockedFor}
