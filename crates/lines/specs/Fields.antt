@@ -1,5 +1,5 @@
 -- document 01, "A printed session": "one space separates fields"
-use Rattle.std.specs.Prelude.{ℕ, ◌+◌, Bool, true, false, List, [], ◌∷◌, ◌++◌, leb, eqb, length, drop}
+use Rattle.std.specs.Prelude.{ℕ, Bool, true, false, List, [], ◌∷◌, ◌++◌, leb, eqb, length, drop}
 use Rattle.arith.specs.Cases.{pick}
 
 -- fields with a word in front of the first

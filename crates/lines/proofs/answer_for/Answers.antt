@@ -1,6 +1,5 @@
 use Rattle.lines.specs.Fields.{fields_from}
 use Rattle.lines.specs.laws.LineLaws.{answer_for_lem, answer_beyond}
-use borrow.Author.Rules.{rules}
 use Rattle.lines.proofs.answer_for.Goals as goal
 
 pub returns-then-device-devices : goal.returns-then-device-devices

@@ -1,4 +1,3 @@
-use borrow.Author.Rules.{rules}
 use Rattle.lines.proofs.answer_of.Goals as goal
 
 pub returns-then-is_letter : goal.returns-then-is_letter

@@ -1,7 +1,6 @@
 use Rattle.lines.specs.Fields.{fields_from}
 use Rattle.lines.specs.laws.FieldLaws.{more_fields, no_fields}
 use Rattle.lines.specs.laws.LineLaws.{answers_many, answers_here}
-use borrow.Author.Rules.{rules}
 use Rattle.lines.proofs.answers_of.Goals as goal
 
 pub returns-then-d-line : goal.returns-then-d-line

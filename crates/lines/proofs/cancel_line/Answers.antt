@@ -1,4 +1,3 @@
-use borrow.Author.Rules.{rules}
 use Rattle.lines.proofs.cancel_line.Goals as goal
 
 pub returns-in-Value : goal.returns-in-Value

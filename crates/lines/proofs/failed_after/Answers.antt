@@ -1,4 +1,3 @@
-use borrow.Author.Rules.{rules}
 use Rattle.lines.proofs.failed_after.Goals as goal
 
 pub returns-in-Value : goal.returns-in-Value

@@ -1,5 +1,4 @@
 use borrow.Author.Tests.{eq-eqb, ne_eqb}
-use borrow.Author.Rules.{rules}
 use Rattle.lines.proofs.is_letter.Goals as goal
 
 pub returns-then-text-ne1 : goal.returns-then-text-ne1

@@ -1,4 +1,3 @@
-use borrow.Author.Rules.{rules}
 use Rattle.lines.proofs.job_in.Goals as goal
 
 pub returns-in-Write : goal.returns-in-Write

@@ -1,4 +1,3 @@
-use borrow.Author.Rules.{rules}
 use Rattle.lines.proofs.job_line.Goals as goal
 
 pub returns-in-At : goal.returns-in-At

@@ -1,6 +1,5 @@
 use Rattle.lines.specs.laws.LineLaws.{line_no_type, line_typed}
 use borrow.Author.Tests.{lt-ltb}
-use borrow.Author.Rules.{rules}
 use Rattle.lines.proofs.line_of.Goals as goal
 
 pub returns-then-line-gt4096 : goal.returns-then-line-gt4096

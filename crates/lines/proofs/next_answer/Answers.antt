@@ -1,5 +1,4 @@
 use Rattle.lines.specs.laws.LineLaws.{answer_past, answer_here}
-use borrow.Author.Rules.{rules}
 use Rattle.lines.proofs.next_answer.Goals as goal
 
 pub returns-then-line-at : goal.returns-then-line-at

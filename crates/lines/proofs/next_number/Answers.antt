@@ -1,5 +1,4 @@
 use Rattle.lines.specs.laws.LineLaws.{number_past, number_here}
-use borrow.Author.Rules.{rules}
 use Rattle.lines.proofs.next_number.Goals as goal
 
 pub returns-then-line-at : goal.returns-then-line-at

@@ -1,13 +1,10 @@
-use Prim.Native.Nat.{◌+◌, ◌-◌, ◌≤◌}
-use mathlib.Core.Path.{◌≡◌, refl, sym, ap, ◌∙◌}
-use mathlib.Core.Bool.{true}
-use lib.ListN.{length}
+use Prim.Native.Nat.{◌+◌}
+use mathlib.Core.Path.{refl, sym, ap, ◌∙◌}
 use native.Mathlib.Omega.{arith}
 use Rattle.arith.specs.Bounded.{every, every_more}
 use Rattle.lines.specs.declared.Number.TheVariants.{Value}
 use Rattle.lines.specs.Number.{digit_at, value_of}
 use Rattle.lines.specs.laws.NumberLaws.{value_more, number_empty, number_low, number_high, number_over, number_is, digit_at_lem}
-use borrow.Author.Rules.{rules}
 use Rattle.lines.proofs.number_of.Goals as goal
 
 pub loop-i-init : goal.loop-i-init

@@ -1,7 +1,6 @@
 use Rattle.lines.specs.Fields.{fields_from}
 use Rattle.lines.specs.laws.FieldLaws.{more_fields, no_fields}
 use Rattle.lines.specs.laws.LineLaws.{only_many, only_here}
-use borrow.Author.Rules.{rules}
 use Rattle.lines.proofs.only_number.Goals as goal
 
 pub returns-then-field-line : goal.returns-then-field-line

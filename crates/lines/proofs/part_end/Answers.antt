@@ -1,10 +1,5 @@
-use Prim.Native.Nat.{◌-◌, ◌≤◌}
-use mathlib.Core.Path.{◌≡◌}
-use lib.ListN.{length}
 use native.Mathlib.Omega.{arith}
-use Rattle.lines.specs.Fields.{cut_from, in_front}
-use Rattle.lines.specs.laws.FieldLaws.{word, word_none, field_more, field_space, field_last}
-use borrow.Author.Rules.{rules}
+use Rattle.lines.specs.laws.FieldLaws.{word_none, field_more, field_space, field_last}
 use Rattle.lines.proofs.part_end.Goals as goal
 
 pub loop-i-init : goal.loop-i-init

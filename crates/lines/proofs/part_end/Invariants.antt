@@ -1,10 +1,8 @@
 use Prim.Native.Nat.{◌-◌, ◌≤◌}
 use mathlib.Core.Path.{◌≡◌}
 use lib.ListN.{length}
-use native.Mathlib.Omega.{arith}
 use Rattle.lines.specs.Fields.{cut_from, in_front}
-use Rattle.lines.specs.laws.FieldLaws.{word, word_none, field_more, field_space, field_last}
-use borrow.Author.Rules.{rules}
+use Rattle.lines.specs.laws.FieldLaws.{word}
 use Rattle.lines.proofs.part_end.Given as goal
 
 abbrev pub invariant-loop-i : goal.invariant-loop-i

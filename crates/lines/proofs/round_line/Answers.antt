@@ -1,5 +1,4 @@
 use borrow.Author.Tests.{le-ltb, lt-ltb}
-use borrow.Author.Rules.{rules}
 use Rattle.lines.proofs.round_line.Goals as goal
 
 pub returns-then-devices-gt4 : goal.returns-then-devices-gt4

@@ -1,7 +1,6 @@
 use Rattle.lines.specs.Fields.{fields_from}
 use Rattle.lines.specs.laws.FieldLaws.{more_fields, no_fields}
 use Rattle.lines.specs.laws.LineLaws.{target_many, target_here}
-use borrow.Author.Rules.{rules}
 use Rattle.lines.proofs.target_from.Goals as goal
 
 pub returns-then-length-line : goal.returns-then-length-line

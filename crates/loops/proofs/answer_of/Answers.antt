@@ -1,7 +1,6 @@
 use mathlib.Core.Path.{refl}
 use borrow.Author.Tests.{eq-eqb, ne_eqb}
 use Rattle.loops.specs.Rounds.{answer_numbered}
-use borrow.Author.Rules.{rules}
 use Rattle.loops.proofs.answer_of.Goals as goal
 
 pub returns-then-number-eq0 : goal.returns-then-number-eq0

@@ -1,8 +1,6 @@
 use Prim.Native.Nat.{◌-◌, ◌≤◌}
-use mathlib.Core.Path.{◌≡◌, refl, ap₂, ◌∙◌}
-use native.Mathlib.Omega.{arith}
-use borrow.Author.Rules.{rules}
-use Rattle.loops.specs.Repeated.{repeated, repeated_more, next_job, busy_manager}
+use mathlib.Core.Path.{◌≡◌}
+use Rattle.loops.specs.Repeated.{repeated, next_job}
 use Rattle.loops.proofs.busy.Given as goal
 
 abbrev pub invariant-loop-i : goal.invariant-loop-i

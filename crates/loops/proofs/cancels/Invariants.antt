@@ -1,8 +1,6 @@
-use Prim.Native.Nat.{◌+◌, ◌-◌, ◌*◌, ◌≤◌}
-use mathlib.Core.Path.{◌≡◌, refl, ap, ap₂, ◌∙◌}
-use native.Mathlib.Omega.{arith}
-use borrow.Author.Rules.{rules}
-use Rattle.loops.specs.Repeated.{repeated, total, repeated_more, total_more, next_cancel, cancel_total}
+use Prim.Native.Nat.{◌-◌, ◌*◌, ◌≤◌}
+use mathlib.Core.Path.{◌≡◌}
+use Rattle.loops.specs.Repeated.{repeated, next_cancel, cancel_total}
 use Rattle.loops.proofs.cancels.Given as goal
 
 abbrev pub invariant-loop-i : goal.invariant-loop-i

@@ -1,8 +1,6 @@
-use Prim.Native.Nat.{◌+◌, ◌-◌, ◌*◌, ◌≤◌}
-use mathlib.Core.Path.{◌≡◌, refl, ap, ap₂, ◌∙◌}
-use native.Mathlib.Omega.{arith}
-use borrow.Author.Rules.{rules}
-use Rattle.loops.specs.Repeated.{repeated, total, total_more, repeated_query, info_total}
+use Prim.Native.Nat.{◌-◌, ◌*◌, ◌≤◌}
+use mathlib.Core.Path.{◌≡◌}
+use Rattle.loops.specs.Repeated.{info_total}
 use Rattle.loops.proofs.infos.Given as goal
 
 abbrev pub invariant-loop-i : goal.invariant-loop-i

@@ -1,8 +1,7 @@
-use Prim.Native.Nat.{◌+◌, ◌-◌, ◌*◌, ◌≤◌}
-use mathlib.Core.Path.{◌≡◌, refl, ap₂, ◌∙◌}
+use Prim.Native.Nat.{◌+◌}
+use mathlib.Core.Path.{refl, ap₂, ◌∙◌}
 use native.Mathlib.Omega.{arith}
-use borrow.Author.Rules.{rules}
-use Rattle.loops.specs.Repeated.{repeated, total, repeated_more, total_more, next_pair, pair_total}
+use Rattle.loops.specs.Repeated.{repeated, total, repeated_more, total_more, pair_total}
 use Rattle.loops.proofs.jobs_and_cancels.Goals as goal
 
 pub loop-i-init : goal.loop-i-init

@@ -1,8 +1,6 @@
-use Prim.Native.Nat.{◌+◌, ◌-◌, ◌*◌, ◌≤◌}
-use mathlib.Core.Path.{◌≡◌, refl, ap₂, ◌∙◌}
-use native.Mathlib.Omega.{arith}
-use borrow.Author.Rules.{rules}
-use Rattle.loops.specs.Repeated.{repeated, total, repeated_more, total_more, next_pair, pair_total}
+use Prim.Native.Nat.{◌-◌, ◌*◌, ◌≤◌}
+use mathlib.Core.Path.{◌≡◌}
+use Rattle.loops.specs.Repeated.{repeated, next_pair, pair_total}
 use Rattle.loops.proofs.jobs_and_cancels.Given as goal
 
 abbrev pub invariant-loop-i : goal.invariant-loop-i

@@ -1,10 +1,8 @@
-use Prim.Native.Nat.{◌+◌, ◌-◌, ◌*◌, ◌≤◌}
-use mathlib.Core.Path.{◌≡◌, refl, ap, ◌∙◌}
-use native.Mathlib.Omega.{arith}
-use borrow.Author.Rules.{rules}
+use Prim.Native.Nat.{◌-◌, ◌*◌, ◌≤◌}
+use mathlib.Core.Path.{◌≡◌}
 use lib.ListN as lists
 use Rattle.effects.specs.Effects.{memory_of}
-use Rattle.loops.specs.Rounds.{rounds, round_total, rounds_more, total_more_rounds, bench_is, bench_of, bench_after}
+use Rattle.loops.specs.Rounds.{round_total, bench_of, bench_after}
 use Rattle.loops.proofs.rounds.Given as goal
 
 abbrev pub invariant-loop-i : goal.invariant-loop-i

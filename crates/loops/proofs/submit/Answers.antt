@@ -1,6 +1,5 @@
 use borrow.Author.Tests.{eq-eqb, ne_eqb}
 use Rattle.loops.specs.Repeated.{kind_of}
-use borrow.Author.Rules.{rules}
 use Rattle.loops.proofs.submit.Goals as goal
 
 pub returns-then-kind-eq1 : goal.returns-then-kind-eq1

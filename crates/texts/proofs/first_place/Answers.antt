@@ -1,8 +1,8 @@
-use Rattle.texts.specs.laws.TextLaws.{reached, power_more, power_fits, count_more, count_all}
+use Rattle.texts.specs.laws.TextLaws.{power_more, power_fits, count_more, count_all}
 use Rattle.arith.specs.Bounded.{sum}
 use native.Mathlib.Omega.{arith}
-use mathlib.Core.Path.{◌≡◌, refl}
-use Prim.Native.Nat.{◌+◌, ◌-◌, ◌^◌, ◌≤◌, ◌<◌}
+use mathlib.Core.Path.{refl}
+use Prim.Native.Nat.{◌+◌, ◌^◌, ◌≤◌, ◌<◌}
 use Rattle.texts.proofs.first_place.Goals as goal
 
 pub loop-power-init : goal.loop-power-init

@@ -1,8 +1,6 @@
-use Rattle.texts.specs.laws.TextLaws.{reached, power_more, power_fits, count_more, count_all}
-use Rattle.arith.specs.Bounded.{sum}
-use native.Mathlib.Omega.{arith}
-use mathlib.Core.Path.{◌≡◌, refl}
-use Prim.Native.Nat.{◌+◌, ◌-◌, ◌^◌, ◌≤◌, ◌<◌}
+use Rattle.texts.specs.laws.TextLaws.{reached}
+use mathlib.Core.Path.{◌≡◌}
+use Prim.Native.Nat.{◌-◌, ◌^◌, ◌≤◌}
 use Rattle.texts.proofs.first_place.Given as goal
 
 abbrev pub invariant-loop-power : goal.invariant-loop-power

@@ -1,6 +1,5 @@
 use native.Mathlib.Omega.{arith}
 use Rattle.texts.specs.laws.TextLaws.{two_bytes}
-use borrow.Author.Rules.{rules}
 use Rattle.texts.proofs.free_text.Goals as goal
 
 pub returns : goal.returns

@@ -1,6 +1,5 @@
 use native.Mathlib.Omega.{arith}
 use Rattle.texts.specs.laws.TextLaws.{info_shown}
-use borrow.Author.Rules.{rules}
 use Rattle.texts.proofs.info_line.Goals as goal
 
 pub returns : goal.returns

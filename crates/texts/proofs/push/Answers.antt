@@ -1,7 +1,6 @@
 use mathlib.Core.Path.{refl}
 use Rattle.texts.specs.laws.AppendLaws.{append_byte}
 use mathlib.Core.Path.{refl}
-use borrow.Author.Rules.{rules}
 use Rattle.texts.proofs.push.Goals as goal
 
 pub returns : goal.returns

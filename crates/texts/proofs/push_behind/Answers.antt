@@ -1,6 +1,5 @@
 use native.Mathlib.Omega.{arith}
 use Rattle.texts.specs.laws.TextLaws.{number_behind}
-use borrow.Author.Rules.{rules}
 use Rattle.texts.proofs.push_behind.Goals as goal
 
 pub returns : goal.returns

@@ -1,11 +1,8 @@
 use Rattle.texts.specs.laws.TextLaws.{power_first, power_less, power_some, count_few, digits_turn, digits_done}
-use Rattle.texts.specs.Texts.{digits_of, digit_count, decimal}
-use borrow.Author.Rules.{rules}
+use Rattle.texts.specs.Texts.{decimal}
 use native.Mathlib.Omega.{arith}
-use lib.ListN.{length, take}
-use mathlib.Core.List.{◌++◌}
 use mathlib.Core.Path.{◌≡◌, refl, ap, ◌∙◌}
-use Prim.Native.Nat.{◌+◌, ◌-◌, ◌/◌, ◌^◌, ◌≤◌}
+use Prim.Native.Nat.{◌-◌, ◌/◌, ◌^◌}
 use Rattle.texts.proofs.push_number.Goals as goal
 
 pub overflow_add-left : goal.overflow_add-left

@@ -1,11 +1,8 @@
-use Rattle.texts.specs.laws.TextLaws.{power_first, power_less, power_some, count_few, digits_turn, digits_done}
 use Rattle.texts.specs.Texts.{digits_of, digit_count, decimal}
-use borrow.Author.Rules.{rules}
-use native.Mathlib.Omega.{arith}
 use lib.ListN.{length, take}
 use mathlib.Core.List.{◌++◌}
-use mathlib.Core.Path.{◌≡◌, refl, ap, ◌∙◌}
-use Prim.Native.Nat.{◌+◌, ◌-◌, ◌/◌, ◌^◌, ◌≤◌}
+use mathlib.Core.Path.{◌≡◌}
+use Prim.Native.Nat.{◌+◌, ◌/◌, ◌^◌, ◌≤◌}
 use Rattle.texts.proofs.push_number.Given as goal
 
 abbrev pub invariant-loop-left : goal.invariant-loop-left

@@ -1,6 +1,5 @@
 use native.Mathlib.Omega.{arith}
 use Rattle.texts.specs.laws.TextLaws.{request_shown}
-use borrow.Author.Rules.{rules}
 use Rattle.texts.proofs.request_text.Goals as goal
 
 pub returns : goal.returns

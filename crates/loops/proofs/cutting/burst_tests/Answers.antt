@@ -1,11 +1,9 @@
-use Prim.Native.Nat.{◌+◌, ◌-◌, ◌≤◌, min}
-use mathlib.Core.Path.{◌≡◌, refl, ap, ◌∙◌}
+use Prim.Native.Nat.{◌+◌}
+use mathlib.Core.Path.{refl, ap, ◌∙◌}
 use native.Mathlib.Omega.{arith}
-use borrow.Author.Rules.{rules}
-use lib.ListN.{length}
 use Rattle.arith.specs.Bounded.{sum, sum_more}
 use Rattle.arith.specs.Cases.{pick}
-use Rattle.loops.specs.Cutting.{multiple_at, multiple_count}
+use Rattle.loops.specs.Cutting.{multiple_count}
 use Rattle.loops.proofs.cutting.burst_tests.Goals as goal
 
 pub loop-i-init : goal.loop-i-init

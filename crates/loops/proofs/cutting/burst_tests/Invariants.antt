@@ -1,11 +1,8 @@
-use Prim.Native.Nat.{◌+◌, ◌-◌, ◌≤◌, min}
-use mathlib.Core.Path.{◌≡◌, refl, ap, ◌∙◌}
-use native.Mathlib.Omega.{arith}
-use borrow.Author.Rules.{rules}
+use Prim.Native.Nat.{◌-◌, ◌≤◌, min}
+use mathlib.Core.Path.{◌≡◌}
 use lib.ListN.{length}
-use Rattle.arith.specs.Bounded.{sum, sum_more}
-use Rattle.arith.specs.Cases.{pick}
-use Rattle.loops.specs.Cutting.{multiple_at, multiple_count}
+use Rattle.arith.specs.Bounded.{sum}
+use Rattle.loops.specs.Cutting.{multiple_at}
 use Rattle.loops.proofs.cutting.burst_tests.Given as goal
 
 abbrev pub invariant-loop-i : goal.invariant-loop-i

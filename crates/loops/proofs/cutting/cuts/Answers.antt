@@ -1,10 +1,9 @@
-use Prim.Native.Nat.{◌+◌, ◌-◌, ◌*◌, ◌≤◌}
-use mathlib.Core.Path.{◌≡◌, refl, ap, ap₂, ◌∙◌, subst, sym}
+use Prim.Native.Nat.{◌+◌, ◌≤◌}
+use mathlib.Core.Path.{refl, ap, ap₂, ◌∙◌, subst, sym}
 use native.Mathlib.Omega.{arith}
-use borrow.Author.Rules.{rules}
 use Rattle.manager.specs.laws.LoadLaws.{loaded_few}
 use Rattle.loops.specs.Repeated.{repeated, total, repeated_more, total_more}
-use Rattle.loops.specs.Cutting.{processed_next, next_cut, cut_total}
+use Rattle.loops.specs.Cutting.{processed_next, cut_total}
 use Rattle.loops.proofs.cutting.cuts.Goals as goal
 
 pub loop-i-init : goal.loop-i-init

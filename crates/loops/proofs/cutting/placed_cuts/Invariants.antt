@@ -1,11 +1,7 @@
-use Prim.Native.Nat.{◌+◌, ◌-◌, ◌*◌, ◌%◌, ◌≤◌}
-use mathlib.Core.Path.{◌≡◌, refl, ap, ap₂, ◌∙◌, sym}
-use native.Mathlib.Omega.{arith}
-use borrow.Author.Rules.{rules}
-use Rattle.plan.specs.Questions.{sub_area_of}
-use Rattle.segment.specs.laws.Found.{segment_if}
-use Rattle.loops.specs.Repeated.{repeated, total, repeated_more, total_more}
-use Rattle.loops.specs.Cutting.{processed_next, next_placed_cut, placed_total}
+use Prim.Native.Nat.{◌-◌, ◌*◌, ◌≤◌}
+use mathlib.Core.Path.{◌≡◌}
+use Rattle.loops.specs.Repeated.{repeated}
+use Rattle.loops.specs.Cutting.{next_placed_cut, placed_total}
 use Rattle.loops.proofs.cutting.placed_cuts.Given as goal
 
 abbrev pub invariant-loop-i : goal.invariant-loop-i

@@ -1,5 +1,4 @@
 use native.Mathlib.Omega.{arith}
-use borrow.Author.Rules.{rules}
 use borrow.Author.Tests.{lt-ltb, le-ltb}
 use Rattle.loops.specs.Cutting.{processed_next}
 use Rattle.loops.proofs.cutting.processed_next.Goals as goal

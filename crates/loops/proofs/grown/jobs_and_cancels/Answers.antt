@@ -1,11 +1,9 @@
-use Prim.Native.Nat.{◌+◌, ◌-◌, ◌*◌, ◌≤◌}
+use Prim.Native.Nat.{◌+◌}
 use mathlib.Core.Path.{◌≡◌, refl, ap, ap₂, ◌∙◌}
 use native.Mathlib.Omega.{arith}
 use Rattle.manager.specs.Calls.{job_number_of, after_job}
-use lib.ListN.{replicate}
 use Rattle.loops.specs.Grown.{manager_in}
-use Rattle.loops.specs.Repeated.{turn, repeated, total, repeated_more, total_more, next_pair, pair_total}
-use borrow.Author.Rules.{rules}
+use Rattle.loops.specs.Repeated.{turn, repeated, total, repeated_more, total_more, pair_total}
 use Rattle.loops.proofs.grown.jobs_and_cancels.Goals as goal
 
 pub loop-i-init : goal.loop-i-init

@@ -1,12 +1,8 @@
-use Prim.Native.Nat.{◌+◌, ◌-◌, ◌*◌, ◌≤◌}
+use Prim.Native.Nat.{◌+◌}
 use mathlib.Core.Path.{◌≡◌, refl, ap, ◌∙◌}
 use native.Mathlib.Omega.{arith}
-use lib.ListN as lists
-use Rattle.effects.specs.Effects.{memory_of}
-use Rattle.loops.specs.Rounds.{rounds, round_total, rounds_more, total_more_rounds, bench_is, bench_of, bench_after, left_total}
-use lib.ListN.{replicate}
+use Rattle.loops.specs.Rounds.{rounds, round_total, rounds_more, total_more_rounds, bench_is, left_total}
 use Rattle.loops.specs.Grown.{manager_in}
-use borrow.Author.Rules.{rules}
 use Rattle.loops.proofs.grown.rounds.Goals as goal
 
 pub loop-i-init : goal.loop-i-init

@@ -1,13 +1,9 @@
-use Prim.Native.Nat.{◌+◌, ◌-◌, ◌*◌, ◌≤◌}
+use Prim.Native.Nat.{◌+◌}
 use mathlib.Core.Path.{◌≡◌, refl, ap, ◌∙◌}
 use native.Mathlib.Omega.{arith}
-use lib.ListN as lists
-use Rattle.effects.specs.Effects.{memory_of}
-use Rattle.loops.specs.Rounds.{rounds, round_total, rounds_more, total_more_rounds, bench_is, bench_of, bench_after, left_total}
-use lib.ListN.{replicate}
+use Rattle.loops.specs.Rounds.{rounds, round_total, rounds_more, total_more_rounds, bench_is, left_total}
 use Rattle.loops.specs.Grown.{manager_in}
 use Rattle.manager.specs.Calls.{manager_of}
-use borrow.Author.Rules.{rules}
 use Rattle.loops.proofs.grown.rounds_in_place.Goals as goal
 
 pub loop-i-init : goal.loop-i-init

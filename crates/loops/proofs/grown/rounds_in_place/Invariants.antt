@@ -1,13 +1,10 @@
-use Prim.Native.Nat.{◌+◌, ◌-◌, ◌*◌, ◌≤◌}
-use mathlib.Core.Path.{◌≡◌, refl, ap, ◌∙◌}
-use native.Mathlib.Omega.{arith}
+use Prim.Native.Nat.{◌-◌, ◌*◌, ◌≤◌}
+use mathlib.Core.Path.{◌≡◌}
 use lib.ListN as lists
 use Rattle.effects.specs.Effects.{memory_of}
-use Rattle.loops.specs.Rounds.{rounds, round_total, rounds_more, total_more_rounds, bench_is, bench_of, bench_after, left_total}
+use Rattle.loops.specs.Rounds.{round_total, bench_of, bench_after}
 use lib.ListN.{replicate}
 use Rattle.loops.specs.Grown.{manager_in}
-use Rattle.manager.specs.Calls.{manager_of}
-use borrow.Author.Rules.{rules}
 use Rattle.loops.proofs.grown.rounds_in_place.Given as goal
 
 abbrev pub invariant-loop-i : goal.invariant-loop-i

@@ -1,8 +1,7 @@
-use Prim.Native.Nat.{◌+◌, ◌-◌, ◌*◌, ◌≤◌}
-use mathlib.Core.Path.{◌≡◌, refl, ap, ap₂, ◌∙◌}
+use Prim.Native.Nat.{◌+◌}
+use mathlib.Core.Path.{refl, ap, ap₂, ◌∙◌}
 use native.Mathlib.Omega.{arith}
-use Rattle.loops.specs.Repeated.{repeated, total, repeated_more, total_more, next_cancel, cancel_total}
-use borrow.Author.Rules.{rules}
+use Rattle.loops.specs.Repeated.{repeated, total, repeated_more, total_more, cancel_total}
 use Rattle.loops.proofs.in_place.cancels.Goals as goal
 
 pub loop-i-init : goal.loop-i-init

@@ -1,9 +1,6 @@
-use Prim.Native.Nat.{◌+◌, ◌-◌, ◌*◌, ◌≤◌}
-use mathlib.Core.Path.{◌≡◌, refl, ap, ap₂, ◌∙◌}
-use native.Mathlib.Omega.{arith}
-use Rattle.manager.specs.Calls.{job_number_of, after_job}
-use Rattle.loops.specs.Repeated.{turn, repeated, total, repeated_more, total_more, next_pair, pair_total}
-use borrow.Author.Rules.{rules}
+use Prim.Native.Nat.{◌-◌, ◌*◌, ◌≤◌}
+use mathlib.Core.Path.{◌≡◌}
+use Rattle.loops.specs.Repeated.{repeated, next_pair, pair_total}
 use Rattle.loops.proofs.in_place.jobs_and_cancels.Given as goal
 
 abbrev pub invariant-loop-i : goal.invariant-loop-i

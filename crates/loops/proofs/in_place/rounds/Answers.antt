@@ -1,11 +1,8 @@
-use Prim.Native.Nat.{◌+◌, ◌-◌, ◌*◌, ◌≤◌}
+use Prim.Native.Nat.{◌+◌}
 use mathlib.Core.Path.{◌≡◌, refl, ap, ◌∙◌}
 use native.Mathlib.Omega.{arith}
-use lib.ListN as lists
-use Rattle.effects.specs.Effects.{memory_of}
-use Rattle.loops.specs.Rounds.{rounds, round_total, rounds_more, total_more_rounds, bench_is, bench_of, bench_after}
+use Rattle.loops.specs.Rounds.{rounds, round_total, rounds_more, total_more_rounds, bench_is}
 use Rattle.manager.specs.Calls.{manager_of}
-use borrow.Author.Rules.{rules}
 use Rattle.loops.proofs.in_place.rounds.Goals as goal
 
 pub loop-i-init : goal.loop-i-init

@@ -1,4 +1,3 @@
-use borrow.Author.Rules.{rules}
 use Rattle.loops.proofs.in_place.task_of.Goals as goal
 
 pub returns : goal.returns

@@ -1,6 +1,5 @@
 use mathlib.Core.Path.{refl, ap, ◌∙◌}
 use Rattle.manager.specs.Calls.{manager_of}
-use borrow.Author.Rules.{rules}
 use Rattle.loops.proofs.grown.Grown.round.Goals as goal
 
 pub returns : goal.returns

@@ -1,5 +1,4 @@
 use mathlib.Core.Path.{refl}
-use borrow.Author.Rules.{rules}
 use Rattle.loops.proofs.grown.Grown.submit.Goals as goal
 
 pub returns : goal.returns
