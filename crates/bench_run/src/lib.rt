@@ -163,7 +163,7 @@ fn take_turn<R: Read, W: Write>(
 }
 
 // All of the input, from the bench's first image and store. Nothing says that it ends, so the turns are counted, from a number that no run uses up. The reads decide what is played:
-// a front of what the reader had left, all of it but where a read or a write failed. What is written is a front of what the lines of that print.
+// a front of what the reader had left. What is written is a front of what the lines of that print.
 fn serve<R: Read, W: Write>(
     reader: &mut R,
     writer: &mut W,

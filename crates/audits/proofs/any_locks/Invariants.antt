@@ -1,13 +1,7 @@
 use Prim.Native.Nat.{◌-◌}
 use lib.ListN.{length}
-use mathlib.Core.Path.{◌≡◌, refl, sym, ap, ◌∙◌}
-use native.Mathlib.Omega.{arith}
-use borrow.Author.Rules.{rules}
-use mathlib.Core.Bool.{◌||◌}
-use Rattle.audits.specs.Audits.{jobs_in}
-use Rattle.rules.specs.statements.JobSets.{any_locks}
-use Rattle.audits.specs.laws.LineLaws.{lines_all}
-use Rattle.audits.specs.laws.TableLaws.{locks_from, locks_pass, locks_more, locks_end}
+use mathlib.Core.Path.{◌≡◌}
+use Rattle.audits.specs.laws.TableLaws.{locks_from}
 use Rattle.audits.proofs.any_locks.Given as goal
 
 abbrev pub invariant-loop-at : goal.invariant-loop-at

@@ -2,7 +2,6 @@ use mathlib.Core.Path.{sym, ◌∙◌}
 use native.Mathlib.Omega.{arith}
 use Rattle.audits.specs.laws.JobLaws.{above_refused, above_under, above_own}
 use Rattle.audits.specs.laws.LoadLaws.{audited}
-use borrow.Author.Rules.{rules}
 use Rattle.audits.proofs.job_above.Goals as goal
 
 pub returns-then-number_of-gt0 : goal.returns-then-number_of-gt0

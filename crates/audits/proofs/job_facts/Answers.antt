@@ -2,7 +2,6 @@ use mathlib.Core.Path.{sym, ◌∙◌}
 use native.Mathlib.Omega.{arith}
 use Rattle.audits.specs.laws.JobLaws.{facts_refused, facts_accepted}
 use Rattle.audits.specs.laws.LoadLaws.{audited}
-use borrow.Author.Rules.{rules}
 use Rattle.audits.proofs.job_facts.Goals as goal
 
 pub returns-then-number-gt0 : goal.returns-then-number-gt0

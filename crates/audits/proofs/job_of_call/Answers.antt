@@ -1,5 +1,4 @@
 use mathlib.Core.Path.{refl}
-use borrow.Author.Rules.{rules}
 use Rattle.audits.proofs.job_of_call.Goals as goal
 
 pub returns-in-Job : goal.returns-in-Job

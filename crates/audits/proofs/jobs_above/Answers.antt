@@ -1,8 +1,6 @@
-use Prim.Native.Nat.{◌+◌, ◌-◌, ◌≤◌, min}
-use lib.ListN.{length}
+use Prim.Native.Nat.{min}
 use mathlib.Core.Path.{◌≡◌, ap, ◌∙◌}
 use native.Mathlib.Omega.{arith}
-use borrow.Author.Rules.{rules}
 use Rattle.audits.specs.Audits.{jobs_in}
 use Rattle.job_rows.specs.JobRows.{too_large}
 use Rattle.rules.specs.statements.JobSets.{jobs_above}

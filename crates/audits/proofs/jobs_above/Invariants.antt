@@ -1,13 +1,8 @@
 use Prim.Native.Nat.{◌+◌, ◌-◌, ◌≤◌, min}
 use lib.ListN.{length}
-use mathlib.Core.Path.{◌≡◌, ap, ◌∙◌}
-use native.Mathlib.Omega.{arith}
-use borrow.Author.Rules.{rules}
-use Rattle.audits.specs.Audits.{jobs_in}
+use mathlib.Core.Path.{◌≡◌}
 use Rattle.job_rows.specs.JobRows.{too_large}
-use Rattle.rules.specs.statements.JobSets.{jobs_above}
-use Rattle.audits.specs.laws.LineLaws.{lines_all}
-use Rattle.audits.specs.laws.TableLaws.{above_from, above_pass, above_more, above_end}
+use Rattle.audits.specs.laws.TableLaws.{above_from}
 use Rattle.audits.proofs.jobs_above.Given as goal
 
 abbrev pub invariant-loop-at : goal.invariant-loop-at

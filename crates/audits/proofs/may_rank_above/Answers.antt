@@ -1,6 +1,5 @@
 use mathlib.Core.Path.{refl}
 use borrow.Author.Tests.{eq-eqb, ne_eqb}
-use borrow.Author.Rules.{rules}
 use Rattle.audits.proofs.may_rank_above.Goals as goal
 
 pub returns-then-b-a : goal.returns-then-b-a

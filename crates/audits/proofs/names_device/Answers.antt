@@ -2,7 +2,6 @@ use mathlib.Core.Path.{sym, ◌∙◌}
 use native.Mathlib.Omega.{arith}
 use Rattle.audits.specs.laws.JobLaws.{locks_refused, locks_device}
 use Rattle.audits.specs.laws.LoadLaws.{audited}
-use borrow.Author.Rules.{rules}
 use Rattle.audits.proofs.names_device.Goals as goal
 
 pub returns-then-number_of-gt0 : goal.returns-then-number_of-gt0

@@ -3,7 +3,6 @@ use Rattle.audits.specs.Audits.{job_of_line}
 use native.Mathlib.Omega.{arith}
 use Rattle.lines.specs.laws.FieldLaws.{word}
 use Rattle.audits.specs.laws.LineLaws.{lines_next}
-use borrow.Author.Rules.{rules}
 use Rattle.audits.proofs.next_job.Goals as goal
 
 pub returns : goal.returns

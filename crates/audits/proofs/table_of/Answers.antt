@@ -1,11 +1,9 @@
-use Prim.Native.Nat.{◌-◌, ◌≤◌}
-use lib.ListN.{length, length-set}
+use lib.ListN.{length-set}
 use mathlib.Core.Bool.{true}
-use mathlib.Core.Path.{◌≡◌, refl}
+use mathlib.Core.Path.{refl}
 use native.Mathlib.Omega.{arith}
-use borrow.Author.Rules.{rules}
 use Rattle.audits.specs.Audits.{jobs_in}
-use Rattle.audits.specs.laws.TableLaws.{TabledTo, tabled_more}
+use Rattle.audits.specs.laws.TableLaws.{tabled_more}
 use Rattle.session.specs.AllLines.{lines_of}
 use Rattle.audits.proofs.table_of.Goals as goal
 

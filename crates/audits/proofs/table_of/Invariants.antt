@@ -1,11 +1,9 @@
 use Prim.Native.Nat.{◌-◌, ◌≤◌}
-use lib.ListN.{length, length-set}
+use lib.ListN.{length}
 use mathlib.Core.Bool.{true}
-use mathlib.Core.Path.{◌≡◌, refl}
-use native.Mathlib.Omega.{arith}
-use borrow.Author.Rules.{rules}
+use mathlib.Core.Path.{◌≡◌}
 use Rattle.audits.specs.Audits.{jobs_in}
-use Rattle.audits.specs.laws.TableLaws.{TabledTo, tabled_more}
+use Rattle.audits.specs.laws.TableLaws.{TabledTo}
 use Rattle.session.specs.AllLines.{lines_of}
 use Rattle.audits.proofs.table_of.Given as goal
 

@@ -1,11 +1,8 @@
-use lib.Dec.{eqb}
-use native.Mathlib.Omega.{arith}
 use Prim.Native.Nat.{◌-◌, ◌*◌, ◌≤◌}
-use mathlib.Core.Path.{◌≡◌, refl, sym, ◌∙◌}
-use Rattle.figures.specs.laws.BoundLaws.{bounds_after, all_bounds, more_few, device_few, segment_some, segment_fits_lem, next_cut_lem, bounds_turn, bounds_end}
+use mathlib.Core.Path.{◌≡◌}
+use Rattle.figures.specs.laws.BoundLaws.{bounds_after, all_bounds}
 use Rattle.segment.specs.Segments.{segment_at, segments_from}
-use Rattle.segment.specs.laws.CutLaws.{Cut, at_start}
-use borrow.Author.Rules.{rules}
+use Rattle.segment.specs.laws.CutLaws.{Cut}
 use Rattle.figures.proofs.cut_bounds.Given as goal
 
 abbrev pub invariant-loop-x : goal.invariant-loop-x

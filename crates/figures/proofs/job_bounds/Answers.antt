@@ -2,7 +2,6 @@ use mathlib.Core.Path.{sym, ◌∙◌}
 use Rattle.figures.specs.laws.BoundLaws.{device_few, lock_bounds, all_bounds_lem}
 use Rattle.rules.specs.Layout.{layout_of}
 use Rattle.segment.specs.laws.CutLaws.{at_start}
-use borrow.Author.Rules.{rules}
 use Rattle.figures.proofs.job_bounds.Goals as goal
 
 pub record_of-record-requires : goal.record_of-record-requires

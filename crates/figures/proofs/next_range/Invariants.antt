@@ -1,10 +1,6 @@
 use Prim.Native.Nat.{◌+◌, ◌-◌, ◌≤◌, ◌<◌}
-use mathlib.Core.Path.{◌≡◌, ◌∙◌}
-use native.Mathlib.Omega.{arith}
-use borrow.Author.Rules.{rules}
+use mathlib.Core.Path.{◌≡◌}
 use Rattle.figures.specs.Ranges.{ranges_after, ranges_of}
-use Rattle.figures.specs.laws.BoundLaws.{segment_some, segment_fits_lem, next_cut_lem, inside_image}
-use Rattle.figures.specs.laws.RangeLaws.{range_first, range_more, range_device_lem, range_gap, range_last}
 use Rattle.segment.specs.Segments.{segment_at, segments_from}
 use Rattle.segment.specs.laws.CutLaws.{Cut}
 use Rattle.figures.proofs.next_range.Given as goal

@@ -1,7 +1,6 @@
 use native.Mathlib.Omega.{arith}
 use mathlib.Core.Path.{refl}
 use Rattle.figures.specs.laws.BoundLaws.{span_none}
-use borrow.Author.Rules.{rules}
 use Rattle.figures.proofs.span_most.Goals as goal
 
 pub returns-then-limit-lt1 : goal.returns-then-limit-lt1

@@ -1,9 +1,7 @@
 use Prim.Native.Nat.{◌-◌, ◌≤◌}
-use mathlib.Core.Path.{◌≡◌, ap, ◌∙◌}
-use native.Mathlib.Omega.{arith}
-use borrow.Author.Rules.{rules}
+use mathlib.Core.Path.{◌≡◌}
 use lib.ListN.{get_or}
-use Rattle.arith.specs.Tables.{table, table_more}
+use Rattle.arith.specs.Tables.{table}
 use Rattle.state.specs.Fresh.{fresh_area}
 use Rattle.interface.specs.Views.{area_view, no_area_view}
 use Rattle.interface.proofs.area_views.Given as goal

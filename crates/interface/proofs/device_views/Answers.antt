@@ -1,11 +1,6 @@
-use Prim.Native.Nat.{◌-◌, ◌≤◌}
-use mathlib.Core.Path.{◌≡◌, ap, ◌∙◌}
+use mathlib.Core.Path.{ap, ◌∙◌}
 use native.Mathlib.Omega.{arith}
-use borrow.Author.Rules.{rules}
-use lib.ListN.{get_or}
 use Rattle.arith.specs.Tables.{table, table_more}
-use Rattle.state.specs.Fresh.{free_device}
-use Rattle.interface.specs.Views.{device_view, no_device_view}
 use Rattle.interface.proofs.device_views.Goals as goal
 
 pub loop-i-init : goal.loop-i-init

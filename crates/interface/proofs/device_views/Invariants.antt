@@ -1,9 +1,7 @@
 use Prim.Native.Nat.{◌-◌, ◌≤◌}
-use mathlib.Core.Path.{◌≡◌, ap, ◌∙◌}
-use native.Mathlib.Omega.{arith}
-use borrow.Author.Rules.{rules}
+use mathlib.Core.Path.{◌≡◌}
 use lib.ListN.{get_or}
-use Rattle.arith.specs.Tables.{table, table_more}
+use Rattle.arith.specs.Tables.{table}
 use Rattle.state.specs.Fresh.{free_device}
 use Rattle.interface.specs.Views.{device_view, no_device_view}
 use Rattle.interface.proofs.device_views.Given as goal

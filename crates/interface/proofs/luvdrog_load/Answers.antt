@@ -1,6 +1,5 @@
 use mathlib.Core.Path.{◌∙◌}
 use Rattle.interface.specs.Views.{view_is}
-use borrow.Author.Rules.{rules}
 use Rattle.interface.proofs.luvdrog_load.Goals as goal
 
 pub returns : goal.returns

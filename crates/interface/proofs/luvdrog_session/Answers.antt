@@ -1,6 +1,5 @@
 use mathlib.Core.Path.{ap}
 use Rattle.session.specs.Fold.{Session}
-use borrow.Author.Rules.{rules}
 use Rattle.interface.proofs.luvdrog_session.Goals as goal
 
 pub returns : goal.returns

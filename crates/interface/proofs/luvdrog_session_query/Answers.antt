@@ -1,7 +1,6 @@
 use mathlib.Core.Path.{ap, ◌∙◌}
 use Rattle.session.specs.Fold.{Session}
 use Rattle.interface.specs.Queries.{query_view}
-use borrow.Author.Rules.{rules}
 use Rattle.interface.proofs.luvdrog_session_query.Goals as goal
 
 pub returns : goal.returns

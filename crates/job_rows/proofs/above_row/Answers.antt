@@ -1,5 +1,4 @@
 use borrow.Author.Tests.{le-ltb, lt-ltb}
-use borrow.Author.Rules.{rules}
 use Rattle.job_rows.proofs.above_row.Goals as goal
 
 pub returns-then-facts-lt18446744073709551615 : goal.returns-then-facts-lt18446744073709551615

@@ -1,7 +1,6 @@
 use native.Mathlib.Omega.{arith}
 use Rattle.job_rows.specs.laws.JobRowLaws.{length_few, stretch_few, stretch_done, segment_more, segment_last}
 use Rattle.figures.specs.laws.BoundLaws.{device_few, segment_some, segment_fits_lem, inside_image}
-use borrow.Author.Rules.{rules}
 use Rattle.job_rows.proofs.cut_step.Goals as goal
 
 pub stretch_row-row-requires : goal.stretch_row-row-requires

@@ -1,6 +1,5 @@
 use native.Mathlib.Omega.{arith}
 use mathlib.Core.Path.{◌≡◌, refl}
-use borrow.Author.Rules.{rules}
 use Rattle.job_rows.proofs.foot_row.Goals as goal
 
 pub returns-then-i-eq0 : goal.returns-then-i-eq0

@@ -1,5 +1,4 @@
 use borrow.Author.Tests.{le-ltb, lt-ltb}
-use borrow.Author.Rules.{rules}
 use Rattle.job_rows.proofs.foot_step.Goals as goal
 
 pub returns-then-i-lt5 : goal.returns-then-i-lt5

@@ -1,5 +1,4 @@
 use borrow.Author.Tests.{eq-eqb, ne_eqb}
-use borrow.Author.Rules.{rules}
 use Rattle.job_rows.proofs.head_step.Goals as goal
 
 pub returns-then-facts-eq0 : goal.returns-then-facts-eq0

@@ -1,4 +1,3 @@
-use borrow.Author.Rules.{rules}
 use Rattle.job_rows.proofs.image_row.Goals as goal
 
 pub returns : goal.returns

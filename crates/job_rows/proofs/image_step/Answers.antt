@@ -1,6 +1,5 @@
 use mathlib.Core.Path.{sym, ◌∙◌}
 use Rattle.job_rows.specs.laws.JobRowLaws.{image_lock, image_more, image_last}
-use borrow.Author.Rules.{rules}
 use Rattle.job_rows.proofs.image_step.Goals as goal
 
 pub returns-then-is_lock : goal.returns-then-is_lock

@@ -1,5 +1,4 @@
 use Rattle.job_rows.specs.laws.JobRowLaws.{head_done, refused_done, foot_done}
-use borrow.Author.Rules.{rules}
 use Rattle.job_rows.proofs.job_step.Goals as goal
 
 pub image_step-requires : goal.image_step-requires

@@ -1,7 +1,6 @@
 use Rattle.job_rows.specs.laws.JobRowLaws.{lock_done}
 use Rattle.figures.specs.laws.BoundLaws.{device_few}
 use Rattle.segment.specs.laws.CutLaws.{at_start}
-use borrow.Author.Rules.{rules}
 use Rattle.job_rows.proofs.lock_step.Goals as goal
 
 pub stretch_row-row-requires : goal.stretch_row-row-requires

@@ -1,4 +1,3 @@
-use borrow.Author.Rules.{rules}
 use Rattle.job_rows.proofs.locked_row.Goals as goal
 
 pub returns-then-facts : goal.returns-then-facts

@@ -1,13 +1,7 @@
-use Prim.Native.Nat.{◌≤◌}
-use lib.ListN.{length}
 use mathlib.Core.Bool.{true≢false}
-use mathlib.Core.Path.{◌≡◌, refl, sym, ◌∙◌}
+use mathlib.Core.Path.{refl, sym, ◌∙◌}
 use native.Mathlib.Omega.{arith}
-use borrow.Author.Rules.{rules}
-use Rattle.job_rows.specs.Cursors.{rows_left, Fits}
 use Rattle.job_rows.specs.laws.JobRowLaws.{row_written, one_less}
-use Rattle.rows.specs.Rows.{rows_text}
-use Rattle.rows.specs.Written.{Written}
 use Rattle.rows.specs.laws.WrittenLaws.{written_none}
 use Rattle.job_rows.proofs.print_job.Goals as goal
 

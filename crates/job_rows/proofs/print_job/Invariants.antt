@@ -1,14 +1,9 @@
 use Prim.Native.Nat.{◌≤◌}
 use lib.ListN.{length}
-use mathlib.Core.Bool.{true≢false}
-use mathlib.Core.Path.{◌≡◌, refl, sym, ◌∙◌}
-use native.Mathlib.Omega.{arith}
-use borrow.Author.Rules.{rules}
+use mathlib.Core.Path.{◌≡◌}
 use Rattle.job_rows.specs.Cursors.{rows_left, Fits}
-use Rattle.job_rows.specs.laws.JobRowLaws.{row_written, one_less}
 use Rattle.rows.specs.Rows.{rows_text}
 use Rattle.rows.specs.Written.{Written}
-use Rattle.rows.specs.laws.WrittenLaws.{written_none}
 use Rattle.job_rows.proofs.print_job.Given as goal
 
 abbrev pub invariant-loop-end : goal.invariant-loop-end

@@ -1,5 +1,4 @@
 use borrow.Author.Tests.{le-ltb, lt-ltb}
-use borrow.Author.Rules.{rules}
 use Rattle.job_rows.proofs.rounds_row.Goals as goal
 
 pub returns-then-facts : goal.returns-then-facts

@@ -1,4 +1,3 @@
-use borrow.Author.Rules.{rules}
 use Rattle.job_rows.proofs.segment_step.Goals as goal
 
 pub returns-then-is_lock : goal.returns-then-is_lock

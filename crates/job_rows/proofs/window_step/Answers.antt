@@ -1,5 +1,4 @@
 use Rattle.job_rows.specs.laws.JobRowLaws.{window_done}
-use borrow.Author.Rules.{rules}
 use Rattle.job_rows.proofs.window_step.Goals as goal
 
 pub returns : goal.returns

@@ -1,5 +1,4 @@
 use Rattle.plan_rows.specs.laws.PlanRowLaws.{no_area_lem, area_itself, area_device}
-use borrow.Author.Rules.{rules}
 use Rattle.plan_rows.proofs.area_place.Goals as goal
 
 pub returns-then-plan-area : goal.returns-then-plan-area

@@ -1,4 +1,3 @@
-use borrow.Author.Rules.{rules}
 use Rattle.plan_rows.proofs.device_row.Goals as goal
 
 pub returns : goal.returns

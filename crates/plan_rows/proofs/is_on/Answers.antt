@@ -1,14 +1,9 @@
-use Prim.Native.Nat.{◌-◌, ◌≤◌}
-use mathlib.Core.Bool.{false, ◌&&◌}
-use mathlib.Core.Path.{◌≡◌, refl, sym, ap, ◌∙◌}
+use mathlib.Core.Path.{refl, sym, ap, ◌∙◌}
 use native.Mathlib.Omega.{arith}
-use lib.Dec.{eqb}
 use borrow.Author.Tests.{eq-eqb, ne_eqb}
 use Rattle.arith.specs.Bounded.{some, some_intro, some_none}
 use Rattle.arith.specs.Cases.{and_intro}
-use Rattle.plan.specs.Questions.{sub_area_of, is_of}
 use Rattle.rules.specs.statements.JobSets.{is_on}
-use borrow.Author.Rules.{rules}
 use Rattle.plan_rows.proofs.is_on.Goals as goal
 
 pub loop-i-init : goal.loop-i-init

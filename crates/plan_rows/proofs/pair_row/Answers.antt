@@ -2,7 +2,6 @@ use Prim.Native.Nat.{◌≤◌, ◌<◌}
 use native.Mathlib.Omega.{arith}
 use borrow.Author.Tests.{lt-ltb, le-ltb}
 use Rattle.rules.specs.Layout.{priority_of}
-use borrow.Author.Rules.{rules}
 use Rattle.plan_rows.proofs.pair_row.Goals as goal
 
 pub returns-then-mine-other : goal.returns-then-mine-other

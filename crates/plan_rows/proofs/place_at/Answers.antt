@@ -1,6 +1,5 @@
 use borrow.Author.Tests.{lt-ltb, le-ltb}
 use Rattle.plan_rows.specs.PlanRows.{rows_at}
-use borrow.Author.Rules.{rules}
 use Rattle.plan_rows.proofs.place_at.Goals as goal
 
 pub returns-then-k-plan : goal.returns-then-k-plan

@@ -1,13 +1,9 @@
 use Prim.Native.Nat.{◌-◌, ◌≤◌}
 use lib.ListN.{length}
-use mathlib.Core.Path.{◌≡◌, refl, ◌∙◌}
-use native.Mathlib.Omega.{arith}
+use mathlib.Core.Path.{◌≡◌}
 use Rattle.rows.specs.Rows.{rows_text}
 use Rattle.rows.specs.Written.{Written}
-use Rattle.rows.specs.laws.WrittenLaws.{written_none, written_more}
 use Rattle.plan_rows.specs.PlanRows.{plan_rows_from}
-use Rattle.plan_rows.specs.laws.PlanRowLaws.{place_row, place_none}
-use borrow.Author.Rules.{rules}
 use Rattle.plan_rows.proofs.print_plan.Given as goal
 
 abbrev pub invariant-loop-next : goal.invariant-loop-next

@@ -1,10 +1,6 @@
-use Prim.Native.Nat.{ℕ, ◌+◌, ◌-◌, ◌≤◌}
-use mathlib.Core.Path.{◌≡◌, refl, ap, ◌∙◌}
-use native.Mathlib.Omega.{arith}
-use Rattle.arith.specs.Bounded.{sum}
-use Rattle.plan_rows.specs.PlanRows.{rank_of}
-use Rattle.plan_rows.specs.laws.PlanRowLaws.{rank_in, rank_lower, rank_same}
-use borrow.Author.Rules.{rules}
+use Prim.Native.Nat.{◌+◌, ◌-◌, ◌≤◌}
+use mathlib.Core.Path.{◌≡◌}
+use Rattle.plan_rows.specs.laws.PlanRowLaws.{rank_in}
 use Rattle.plan_rows.proofs.rank_of.Given as goal
 
 abbrev pub invariant-loop-i : goal.invariant-loop-i

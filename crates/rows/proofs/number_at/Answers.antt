@@ -1,5 +1,4 @@
 use Rattle.rows.specs.laws.FormLaws.{no_number}
-use borrow.Author.Rules.{rules}
 use Rattle.rows.proofs.number_at.Goals as goal
 
 pub returns : goal.returns

@@ -1,6 +1,5 @@
 use native.Mathlib.Omega.{arith}
 use Rattle.arith.specs.Listed.{listed}
-use borrow.Author.Rules.{rules}
 use Rattle.rows.proofs.print_plan.Goals as goal
 
 pub returns-in-Device : goal.returns-in-Device

@@ -1,5 +1,4 @@
 use Rattle.rows.specs.Rows.{row_text}
-use borrow.Author.Rules.{rules}
 use Rattle.rows.proofs.print_row.Goals as goal
 
 pub returns-in-OfPlan : goal.returns-in-OfPlan

@@ -1,6 +1,5 @@
 use native.Mathlib.Omega.{arith}
 use Rattle.arith.specs.Listed.{listed}
-use borrow.Author.Rules.{rules}
 use Rattle.rows.proofs.print_wait.Goals as goal
 
 pub returns-in-Own : goal.returns-in-Own

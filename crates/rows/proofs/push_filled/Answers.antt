@@ -1,11 +1,6 @@
-use Prim.Native.Nat.{◌+◌, ◌-◌, ◌*◌, ◌≤◌}
-use lib.ListN.{length}
-use mathlib.Core.Path.{◌≡◌, refl, ◌∙◌}
+use mathlib.Core.Path.{refl, ◌∙◌}
 use native.Mathlib.Omega.{arith}
-use borrow.Author.Rules.{rules}
-use Rattle.rows.specs.Forms.{filled}
-use Rattle.rows.specs.Written.{Written}
-use Rattle.rows.specs.laws.FormLaws.{left, number_next, byte_next, none_left}
+use Rattle.rows.specs.laws.FormLaws.{number_next, byte_next, none_left}
 use Rattle.rows.specs.laws.WrittenLaws.{written_none, written_more, written_all}
 use Rattle.rows.proofs.push_filled.Goals as goal
 

@@ -1,12 +1,9 @@
 use Prim.Native.Nat.{◌+◌, ◌-◌, ◌*◌, ◌≤◌}
 use lib.ListN.{length}
-use mathlib.Core.Path.{◌≡◌, refl, ◌∙◌}
-use native.Mathlib.Omega.{arith}
-use borrow.Author.Rules.{rules}
+use mathlib.Core.Path.{◌≡◌}
 use Rattle.rows.specs.Forms.{filled}
 use Rattle.rows.specs.Written.{Written}
-use Rattle.rows.specs.laws.FormLaws.{left, number_next, byte_next, none_left}
-use Rattle.rows.specs.laws.WrittenLaws.{written_none, written_more, written_all}
+use Rattle.rows.specs.laws.FormLaws.{left}
 use Rattle.rows.proofs.push_filled.Given as goal
 
 abbrev pub invariant-loop-i : goal.invariant-loop-i

@@ -1,5 +1,5 @@
 -- A text written part by part.
-use Rattle.std.specs.Prelude.{ℕ, ◌+◌, List, [], ◌++◌, ◌≡◌, refl}
+use Rattle.std.specs.Prelude.{ℕ, List, [], ◌++◌, ◌≡◌, refl}
 use Rattle.std.proofs.Common.{append_assoc, append-nil, ◌∙◌, arith, length-append}
 use Rattle.texts.specs.Appended.{Appended}
 use Rattle.rows.specs.Written.{Written}

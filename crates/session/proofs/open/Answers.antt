@@ -2,7 +2,6 @@ use Rattle.session.specs.laws.PlanTextLaws.{kept_sum, few_devices, number_some, 
 use Rattle.plan.specs.Questions.{load_number}
 use native.Mathlib.Omega.{arith}
 use mathlib.Core.Path.{◌≡◌, refl, ◌∙◌}
-use borrow.Author.Rules.{rules}
 use Rattle.session.proofs.open.Goals as goal
 
 pub returns-then-out-lt338 : goal.returns-then-out-lt338

@@ -1,6 +1,5 @@
 use Rattle.session.specs.laws.FoldLaws.{all_refused, all_lines}
 use native.Mathlib.Omega.{arith}
-use borrow.Author.Rules.{rules}
 use Rattle.session.proofs.play_all.Goals as goal
 
 pub returns-then-opened-gt0 : goal.returns-then-opened-gt0

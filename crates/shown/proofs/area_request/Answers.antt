@@ -1,7 +1,6 @@
 use native.Mathlib.Omega.{arith}
 use Rattle.devices.specs.Arrays.{job_in}
 use Rattle.shown.specs.laws.ShownLaws.{request_shown}
-use borrow.Author.Rules.{rules}
 use Rattle.shown.proofs.area_request.Goals as goal
 
 pub returns : goal.returns

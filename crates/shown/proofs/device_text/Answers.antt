@@ -1,7 +1,6 @@
 use native.Mathlib.Omega.{arith}
 use Rattle.devices.specs.Arrays.{job_in}
 use Rattle.shown.specs.laws.ShownLaws.{free_shown, locked_shown, runs_shown}
-use borrow.Author.Rules.{rules}
 use Rattle.shown.proofs.device_text.Goals as goal
 
 pub returns-in-Free : goal.returns-in-Free

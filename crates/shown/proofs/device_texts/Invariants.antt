@@ -1,14 +1,10 @@
-use Prim.Native.Nat.{ℕ, ◌+◌, ◌-◌, ◌*◌, ◌≤◌}
-use mathlib.Core.Path.{◌≡◌, refl, ap, ◌∙◌}
+use Prim.Native.Nat.{◌+◌, ◌-◌, ◌*◌, ◌≤◌}
+use mathlib.Core.Path.{◌≡◌}
 use lib.ListN.{length}
-use native.Mathlib.Omega.{arith}
 use Rattle.texts.specs.Appended.{Appended}
-use Rattle.texts.specs.laws.AppendLaws.{append_same}
 use Rattle.devices.specs.Arrays.{core_in}
 use Rattle.rules.specs.Session.{shown_to}
 use Rattle.shown.specs.Shown.{shown_texts}
-use Rattle.shown.specs.laws.ShownLaws.{device_shown, none_shown}
-use borrow.Author.Rules.{rules}
 use Rattle.shown.proofs.device_texts.Given as goal
 
 abbrev pub invariant-loop-d : goal.invariant-loop-d

@@ -1,6 +1,5 @@
 use native.Mathlib.Omega.{arith}
 use Rattle.shown.specs.laws.ShownLaws.{round_shown}
-use borrow.Author.Rules.{rules}
 use Rattle.shown.proofs.devices_line.Goals as goal
 
 pub returns : goal.returns

@@ -1,7 +1,6 @@
 use mathlib.Core.Path.{sym, ap, ◌∙◌}
 use native.Mathlib.Omega.{arith}
 use Rattle.devices.specs.laws.ArrayLaws.{job_past}
-use borrow.Author.Rules.{rules}
 use Rattle.shown.proofs.job_of.Goals as goal
 
 pub returns-then-area-ge8 : goal.returns-then-area-ge8

@@ -1,5 +1,4 @@
 use Rattle.shown.specs.laws.ShownLaws.{start_past}
-use borrow.Author.Rules.{rules}
 use Rattle.shown.proofs.start_of.Goals as goal
 
 pub returns-then-area-ge8 : goal.returns-then-area-ge8

@@ -1,4 +1,3 @@
-use borrow.Author.Rules.{rules}
 use Rattle.audits.proofs.fill.facts_of.Goals as goal
 
 pub returns-in-NoJob : goal.returns-in-NoJob

@@ -1,6 +1,5 @@
 use native.Mathlib.Omega.{arith}
 use Rattle.audits.specs.laws.FillLaws.{plan_stops, plan_passes}
-use borrow.Author.Rules.{rules}
 use Rattle.audits.proofs.fill.fill.Goals as goal
 
 pub returns-then-printed-lt300 : goal.returns-then-printed-lt300

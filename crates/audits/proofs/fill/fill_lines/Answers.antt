@@ -1,11 +1,8 @@
-use Prim.Native.Nat.{◌-◌}
-use lib.ListN.{length}
 use mathlib.Core.Logic.{inl, inr}
 use mathlib.Core.Path.{sym, ◌∙◌}
 use native.Mathlib.Omega.{arith}
-use borrow.Author.Rules.{rules}
 use Rattle.job_rows.specs.Cursors.{is_end}
-use Rattle.audits.specs.laws.FillLaws.{Filling, filling_first, filling_next, filling_stops, line_begins, begun, not_begun}
+use Rattle.audits.specs.laws.FillLaws.{filling_first, filling_next, filling_stops, line_begins, begun, not_begun}
 use Rattle.audits.proofs.fill.fill_lines.Goals as goal
 
 pub loop-next-init : goal.loop-next-init

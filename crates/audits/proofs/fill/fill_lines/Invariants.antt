@@ -1,11 +1,6 @@
 use Prim.Native.Nat.{◌-◌}
 use lib.ListN.{length}
-use mathlib.Core.Logic.{inl, inr}
-use mathlib.Core.Path.{sym, ◌∙◌}
-use native.Mathlib.Omega.{arith}
-use borrow.Author.Rules.{rules}
-use Rattle.job_rows.specs.Cursors.{is_end}
-use Rattle.audits.specs.laws.FillLaws.{Filling, filling_first, filling_next, filling_stops, line_begins, begun, not_begun}
+use Rattle.audits.specs.laws.FillLaws.{Filling}
 use Rattle.audits.proofs.fill.fill_lines.Given as goal
 
 abbrev pub invariant-loop-next : goal.invariant-loop-next

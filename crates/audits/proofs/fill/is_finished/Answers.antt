@@ -2,7 +2,6 @@ use mathlib.Core.Path.{refl, sym, ◌∙◌}
 use borrow.Author.Tests.{lt-ltb, le-ltb}
 use Rattle.job_rows.specs.Cursors.{is_end}
 use Rattle.audits.specs.laws.FillLaws.{begun, not_begun}
-use borrow.Author.Rules.{rules}
 use Rattle.audits.proofs.fill.is_finished.Goals as goal
 
 pub returns-then-place-lt300 : goal.returns-then-place-lt300

@@ -1,4 +1,3 @@
-use borrow.Author.Rules.{rules}
 use Rattle.audits.proofs.fill.print_line.Goals as goal
 
 pub print_job-requires : goal.print_job-requires

@@ -1,7 +1,6 @@
 use mathlib.Core.Path.{sym, ◌∙◌}
 use native.Mathlib.Omega.{arith}
 use Rattle.audits.specs.laws.FillLaws.{unreadable_over, unreadable_printed}
-use borrow.Author.Rules.{rules}
 use Rattle.audits.proofs.fill.print_unreadable.Goals as goal
 
 pub returns-then-is_over : goal.returns-then-is_over

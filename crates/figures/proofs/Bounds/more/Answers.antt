@@ -1,7 +1,6 @@
 use native.Mathlib.Omega.{arith}
 use mathlib.Core.Path.{refl}
 use Rattle.figures.specs.laws.BoundLaws.{same_bounds}
-use borrow.Author.Rules.{rules}
 use Rattle.figures.proofs.Bounds.more.Goals as goal
 
 pub returns-then-same : goal.returns-then-same

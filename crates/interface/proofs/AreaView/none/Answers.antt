@@ -1,6 +1,5 @@
 use mathlib.Core.Path.{ap, ◌∙◌}
 use Rattle.interface.specs.Views.{area_view}
-use borrow.Author.Rules.{rules}
 use Rattle.interface.proofs.AreaView.none.Goals as goal
 
 pub returns : goal.returns

@@ -1,6 +1,5 @@
 use mathlib.Core.Path.{ap, ◌∙◌}
 use Rattle.interface.specs.Views.{device_view}
-use borrow.Author.Rules.{rules}
 use Rattle.interface.proofs.DeviceView.none.Goals as goal
 
 pub returns : goal.returns

@@ -1,4 +1,3 @@
-use borrow.Author.Rules.{rules}
 use Rattle.interface.proofs.DeviceView.of.Goals as goal
 
 pub returns : goal.returns

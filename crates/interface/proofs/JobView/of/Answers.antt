@@ -1,4 +1,3 @@
-use borrow.Author.Rules.{rules}
 use Rattle.interface.proofs.JobView.of.Goals as goal
 
 pub returns : goal.returns

@@ -1,4 +1,3 @@
-use borrow.Author.Rules.{rules}
 use Rattle.interface.proofs.StateView.kept.Goals as goal
 
 pub returns-in-Erase : goal.returns-in-Erase

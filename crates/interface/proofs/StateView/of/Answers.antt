@@ -1,4 +1,3 @@
-use borrow.Author.Rules.{rules}
 use Rattle.interface.proofs.StateView.of.Goals as goal
 
 pub returns-in-Runs : goal.returns-in-Runs

@@ -1,4 +1,4 @@
-use borrow.Author.Tests.{lt-ltb, le-ltb, not-true, not-false}
+use borrow.Author.Tests.{lt-ltb, le-ltb}
 use Rattle.session.proofs.fold.is_line.Goals as goal
 
 pub returns-then-to-length : goal.returns-then-to-length

@@ -1,17 +1,10 @@
 use Prim.Native.Nat.{◌+◌, ◌-◌, ◌≤◌}
-use mathlib.Core.Path.{◌≡◌, refl, sym, ap, ◌∙◌}
+use mathlib.Core.Path.{◌≡◌}
 use lib.ListN.{length}
-use native.Mathlib.Omega.{arith}
-use borrow.Author.Tests.{not-true, not-false}
 use Rattle.lines.specs.Fields.{cut_from}
-use Rattle.lines.specs.laws.FieldLaws.{fields_all, fields_past}
 use Rattle.manager.specs.Calls.{manager_of}
-use Rattle.effects.specs.Effects.{memory_of}
 use Rattle.session.specs.Fold.{played_lines, played_input}
-use Rattle.session.specs.laws.FoldLaws.{session_of, used_to, lines_full, lines_none, lines_turn}
-use Rattle.session.specs.laws.PlayLaws.{unreadable_done, call_done, info_done, round_done}
-use Rattle.session.specs.laws.RoundLaws.{round_shows}
-use borrow.Author.Rules.{rules}
+use Rattle.session.specs.laws.FoldLaws.{session_of, used_to}
 use Rattle.session.proofs.fold.play_lines.Given as goal
 
 abbrev pub invariant-loop-at : goal.invariant-loop-at

@@ -2,7 +2,6 @@ use Prim.Native.Nat.{ℕ}
 use mathlib.Core.List.{List}
 use Rattle.manager.specs.Calls.{manager_of}
 use Rattle.session.specs.laws.PlayLaws.{plain_done}
-use borrow.Author.Rules.{rules}
 use Rattle.session.proofs.play.make.Goals as goal
 
 pub returns-in-Job : goal.returns-in-Job

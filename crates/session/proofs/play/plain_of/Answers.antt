@@ -1,4 +1,3 @@
-use borrow.Author.Rules.{rules}
 use Rattle.session.proofs.play.plain_of.Goals as goal
 
 pub returns-in-Write : goal.returns-in-Write

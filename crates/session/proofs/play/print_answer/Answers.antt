@@ -1,6 +1,5 @@
 use native.Mathlib.Omega.{arith}
 use Rattle.session.specs.laws.PlayLaws.{number_same}
-use borrow.Author.Rules.{rules}
 use Rattle.session.proofs.play.print_answer.Goals as goal
 
 pub returns : goal.returns

@@ -1,6 +1,5 @@
 use native.Mathlib.Omega.{arith}
 use Rattle.session.specs.laws.PlayLaws.{info_refused, info_accepted}
-use borrow.Author.Rules.{rules}
 use Rattle.session.proofs.play.print_info.Goals as goal
 
 pub returns-then-number-gt0 : goal.returns-then-number-gt0

@@ -1,6 +1,5 @@
 use native.Mathlib.Omega.{arith}
 use Rattle.session.specs.laws.RoundLaws.{round_refused, round_accepted}
-use borrow.Author.Rules.{rules}
 use Rattle.session.proofs.play.print_round.Goals as goal
 
 pub returns-then-number-gt0 : goal.returns-then-number-gt0

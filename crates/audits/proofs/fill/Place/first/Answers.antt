@@ -1,5 +1,4 @@
 use mathlib.Core.Path.{refl}
-use borrow.Author.Rules.{rules}
 use Rattle.audits.proofs.fill.Place.first.Goals as goal
 
 pub returns : goal.returns

@@ -1,5 +1,4 @@
 use Rattle.interface.specs.Queries.{query_view}
-use borrow.Author.Rules.{rules}
 use Rattle.interface.proofs.queries.QueryView.of.Goals as goal
 
 pub returns : goal.returns

@@ -1,4 +1,3 @@
-use borrow.Author.Rules.{rules}
 use Rattle.interface.proofs.queries.ResultView.of.Goals as goal
 
 pub returns : goal.returns
