@@ -1,6 +1,6 @@
 #!/bin/sh
-# The gate: every proof, edit, recorded run and test, each once. Its last line is rt ci's, 'N passed, 0 failed', and stands there only where all else
-# passed too.
+# The gate: every proof, edit, recorded run and test; what `rt ci` passed on this machine before, and nothing under it changed, it does not prove again. Its last line is
+# rt ci's, 'N passed, 0 failed', and stands there only where all else passed too.
 set -eu
 cd "$(dirname "$0")/.."
 sh tools/need.sh rt cargo
