@@ -8,13 +8,13 @@ use Rattle.memory.specs.declared.LogicalAddress.{LogicalAddress}
 use Rattle.state.specs.declared.JobInfo.{JobInfo}
 use Rattle.state.specs.declared.MemoryInfo.{MemoryInfo}
 use Rattle.state.specs.declared.WearInfo.{WearInfo}
-use Rattle.interface.specs.declared.queries.StatusView.{StatusView}
-use Rattle.interface.specs.declared.queries.ResultView.{ResultView}
-use Rattle.interface.specs.declared.queries.ProcessedView.{ProcessedView}
-use Rattle.interface.specs.declared.queries.JobInfoView.{JobInfoView}
-use Rattle.interface.specs.declared.queries.MemoryInfoView.{MemoryInfoView}
-use Rattle.interface.specs.declared.queries.WearInfoView.{WearInfoView}
-use Rattle.interface.specs.declared.queries.QueryView.{QueryView}
+use Rattle.interface.specs.declared.query_views.StatusView.{StatusView}
+use Rattle.interface.specs.declared.query_views.ResultView.{ResultView}
+use Rattle.interface.specs.declared.query_views.ProcessedView.{ProcessedView}
+use Rattle.interface.specs.declared.query_views.JobInfoView.{JobInfoView}
+use Rattle.interface.specs.declared.query_views.MemoryInfoView.{MemoryInfoView}
+use Rattle.interface.specs.declared.query_views.WearInfoView.{WearInfoView}
+use Rattle.interface.specs.declared.query_views.QueryView.{QueryView}
 
 abbrev pub status_view : Manager → ℕ → StatusView
 status_view m a = record { number = info_number_of m a; status = status_of m a }

@@ -7,9 +7,9 @@ ghost use Rattle.session.specs.Fold.{played_all};
 ghost use Rattle.interface.specs.Queries.{query_view};
 ghost use Rattle.interface.specs.Views.{job_view, area_view, no_area_view, area_views, no_state_view, state_view, kept_view, device_view, no_device_view, device_views, load_view};
 
-pub mod queries;
+pub mod query_views;
 
-use crate::queries::QueryView;
+use crate::query_views::QueryView;
 use manager::Manager;
 use memory::{JobResult, LogicalAddress};
 use plan::records::Plan;

@@ -1,5 +1,5 @@
 use Rattle.interface.specs.Queries.{query_view}
-use Rattle.interface.proofs.queries.QueryView.of.Goals as goal
+use Rattle.interface.proofs.query_views.QueryView.of.Goals as goal
 
 pub returns : goal.returns
 unfolding query_view

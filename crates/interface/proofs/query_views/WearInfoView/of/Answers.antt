@@ -1,4 +1,4 @@
-use Rattle.interface.proofs.queries.WearInfoView.of.Goals as goal
+use Rattle.interface.proofs.query_views.WearInfoView.of.Goals as goal
 
 pub returns : goal.returns
 returns c =
