@@ -11,6 +11,7 @@ pub mod Polls
 pub mod FirstHalf
 pub mod Best
 pub mod BestAbove
+pub mod OverErase
 pub mod Suspends
 pub mod SecondHalf
 pub mod AllPicked

@@ -99,7 +99,7 @@ impl Seek {
 }
 
 // Document 01: "the lookup walks the sub-area records as a lent list in plan order." Where the byte is found it goes on behind the last
-// record, so that its loop has one way out: a walk over a lent list of structs is proved by hand.
+// record, so that its loop has one way out.
 fn lookup(sub_areas: &[SubAreaRecord], area: usize, offset: u64) -> Found
     ensures { result ≡ find (length sub_areas.now) sub_areas.now 0 area offset }
 {

@@ -31,7 +31,7 @@ use Rattle.rules.proofs.laws.StepLaws.{job_taken, done_taken, take_case, untouch
 use Rattle.rules.proofs.laws.Done.{DoneFits, begun_fits, ended_fits, cancelled_fits, failed_fits, finished_fits, differs_fits}
 
 -- a request takes its answer
-taken_fits : (p : Plan) (a : ℕ) → WellFormed p → (v : Verdict) (t : Bool) {j : Job} {l : List Segment} → is_pending j ≡ true → DoneFits p a j l →
+pub taken_fits : (p : Plan) (a : ℕ) → WellFormed p → (v : Verdict) (t : Bool) {j : Job} {l : List Segment} → is_pending j ≡ true → DoneFits p a j l →
     DoneFits p a (job_taken (layout_of p) a v t j) (done_taken v (due (layout_of p) a j) l)
 taken_fits p a w goes_on true h f = f
 taken_fits p a w goes_on false h f = failed_fits p a f

@@ -26,7 +26,7 @@ use Rattle.rules.proofs.laws.RankLaws.{AgesApart}
 use Rattle.rules.proofs.laws.Reachable.{Reachable}
 use Rattle.rules.specs.Round.{round_halves}
 use Rattle.rules.proofs.laws.Runs.{HistoryFits, picks_reachable}
-use Rattle.rules.proofs.laws.Suspends.{kinds}
+use Rattle.rules.proofs.laws.OverErase.{kinds}
 use Rattle.rules.specs.statements.Moments.{moment_of}
 use Rattle.rules.specs.statements.Order.{Highest, Picks, ready_beside, Qualifies, Erasing, running, suspended, GivesWay}
 use Rattle.rules.specs.statements.Statements.{answered_core, FirstCome}

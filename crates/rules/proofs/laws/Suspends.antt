@@ -1,12 +1,13 @@
 -- A device starts a request, also over an erase that it suspends.
 use Rattle.std.specs.Prelude.{ℕ, suc, ◌+◌, ◌-◌, ◌≤◌, ◌<◌, Bool, ◌≡◌, eqb}
 use Rattle.std.proofs.Math.Bool.{true, false}
-use Rattle.std.proofs.Common.{true≢false, sym, ap, ◌∙◌, arith, lt-ltb, eq-eqb, ne_eqb}
+use Rattle.std.proofs.Common.{true≢false, sym, ◌∙◌, arith, lt-ltb, eq-eqb, ne_eqb}
 use Rattle.std.proofs.lemmas.Bool.{false≢true}
 use Rattle.std.proofs.Math.Path.{refl}
 use Rattle.arith.specs.Cases.{pick, or_left, or_right, or_elim}
 use Rattle.memory.specs.declared.JobType.{JobType}
 use Rattle.memory.specs.declared.JobType.TheVariants as Types
+use Rattle.rules.proofs.laws.OverErase.{other, new}
 use Rattle.rules.proofs.laws.Polls.{PolledOn}
 use Rattle.arith.specs.Bounded.{below_suc}
 use Rattle.arith.specs.Parts.{upd, upd_case}
@@ -24,16 +25,6 @@ use Rattle.rules.specs.Machine.{ready}
 use Rattle.rules.proofs.laws.Potential.{AtMost, due_left, if_below, by_behind}
 use Rattle.rules.proofs.laws.Reachable.{Suspending, DeviceFits, Reachable, Passes}
 use Rattle.rules.proofs.laws.Turns.{NoWorse, NoWorseOn, same_passes, Turn, device_passes}
-
--- what displaces an erase is no erase, and no lock request
-pub kinds : (k : JobType) → displaces k ≡ true → (is_erase k ≡ false) × (is_lock k ≡ false)
-kinds Types.NoJob e = (refl, refl)
-kinds Types.Write e = (refl, refl)
-kinds Types.Read e = (refl, refl)
-kinds Types.Compare e = (refl, refl)
-kinds Types.BlankCheck e = (refl, refl)
-kinds Types.Erase e = absurd (false≢true e)
-kinds Types.Lock e = absurd (false≢true e)
 
 -- running or locked
 abbrev pub Busy : DeviceState → Type 0
@@ -137,27 +128,16 @@ module _ (p : Layout) (admits : ℕ → Task → Bool) (L : Laws p admits) (n : 
     -- another area starts over it
     module _ (a : ℕ) (waits : (is_pending (c.jobs a) ≡ true) × (need p a (c.jobs a) ≡ n)) (d : displaces (c.jobs a).task.kind ≡ true)
         (above : (i : ℕ) → i < p.areas → ready p c n i ≡ true → (a ≡ i → ⊥) → p.outranks a i ≡ true) where
-      other : a ≡ b → ⊥
-      other g = true≢false (sym f.erases ∙ ap (λ i. is_erase (c.jobs i).task.kind) (sym g) ∙ (kinds (c.jobs a).task.kind d).0)
-
-      new : DeviceFits p c.jobs n (record { state = Runs a 0; suspended = Kept.Erase b q })
-      new =
-          record {
-            state = record { pending = waits.0; no_lock = (kinds (c.jobs a).task.kind d).1; needed = waits.1; few = L.limit_some n h };
-            suspended = f;
-            apart = other;
-          }
-
       -- it was suspended already
       pub starts_over : (c.devices n).state ≡ Free → (c.devices n).suspended ≡ Kept.Erase b q →
           Started p admits p.devices (suc n) c (set_device n (Runs a 0) (Kept.Erase b q) c)
       starts_over e k =
-          start_device_lem (record { state = Runs a 0; suspended = Kept.Erase b q }) tt new
+          start_device_lem (record { state = Runs a 0; suspended = Kept.Erase b q }) tt (new p n c b q f a waits d (L.limit_some n h))
           (λ i g l. record {
             left =
                 let o = (start_no_worse p (p.limit n) (pick (eqb b i) (p.limit n - q) (p.limit n)) i a
                 (above i (r.jobs i g).known ((ready_plain p c n i).1 (g, l)))
-                (λ u. rw (ne_eqb b i (λ v. other (u ∙ sym v))))).left in
+                (λ u. rw (ne_eqb b i (λ v. other p n c b q f a d (u ∙ sym v))))).left in
                 rw (e, k) (omega (arith, o));
             held = rw (e, k) (λ v. or_right (eqb a i) (eqb b i) v);
           })
@@ -166,7 +146,7 @@ module _ (p : Layout) (admits : ℕ → Task → Bool) (L : Laws p admits) (n : 
       pub suspends_it : (c.devices n).state ≡ Runs b q → (c.devices n).suspended ≡ Kept.Nothing →
           Started p admits p.devices (suc n) c (set_device n (Runs a 0) (Kept.Erase b q) c)
       suspends_it e k =
-          start_device_lem (record { state = Runs a 0; suspended = Kept.Erase b q }) tt new
+          start_device_lem (record { state = Runs a 0; suspended = Kept.Erase b q }) tt (new p n c b q f a waits d (L.limit_some n h))
           (λ i g l. record {
             left = rw (e, k) (gives i (above i (r.jobs i g).known ((ready_plain p c n i).1 (g, l))));
             held = rw (e, k) (λ v. or_right (eqb a i) (eqb b i) (or_elim (eqb b i) false v (λ z. z) (λ z. absurd (false≢true z))));
@@ -187,7 +167,7 @@ module _ (p : Layout) (admits : ℕ → Task → Bool) (L : Laws p admits) (n : 
               }) (record { own = (due_left (wait_behind p i b) (limit - (q + 0)) limit).own; below = (due_left (wait_behind p i b) (limit - (q + 0)) limit).below + 0 })) p i a
               (λ z. by_behind (λ w. AtMost (record { own = limit - 0; below = 0 + if_below w (limit - q) })
               (record { own = (due_left w (limit - (q + 0)) limit).own; below = (due_left w (limit - (q + 0)) limit).below + 0 })) p i b
-              (λ y. absurd (other (z ∙ sym y))) (λ _ _. omega arith) (λ _ _. omega arith))
+              (λ y. absurd (other p n c b q f a d (z ∙ sym y))) (λ _ _. omega arith) (λ _ _. omega arith))
               (λ _ _. by_behind (λ w. AtMost (record { own = pick (eqb b i) (limit - q) limit; below = 0 + if_below w (limit - q) })
               (record { own = (due_left w (limit - (q + 0)) limit).own; below = (due_left w (limit - (q + 0)) limit).below + 0 })) p i b
               (λ y. rw (eq-eqb b i y) (omega arith)) (λ y _. rw (ne_eqb b i y) (omega arith)) (λ y _. rw (ne_eqb b i y) (omega arith)))

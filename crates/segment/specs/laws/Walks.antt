@@ -1,4 +1,4 @@
--- What proofs that walk a function's MIR by hand share (docs/PROOFS.md, "The lookup over a lent list"). None of it is about sub-areas.
+-- What proofs that walked a function's MIR by hand shared (docs/PROOFS.md, "The lookup over a lent list"); nothing cites it now. None of it is about sub-areas.
 use Rattle.std.specs.Prelude.{◌≡◌, ℕ, zero, suc, ◌+◌, ◌-◌, ◌≤◌, ◌<◌, List, [], ◌∷◌}
 use Rattle.std.proofs.Common.{sym, ◌∙◌, subst, add-zero, zero-add, arith}
 use lib.WfN.{lt-wf_rel}
