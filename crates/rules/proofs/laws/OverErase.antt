@@ -33,6 +33,6 @@ module _ (p : Layout) (n : ℕ) (c : Core) (b q : ℕ) (f : Suspending p n b q (
   new waits d few =
       record {
         state = record { pending = waits.0; no_lock = (kinds (c.jobs a).task.kind d).1; needed = waits.1; few = few };
-        suspended = record { pending = f.pending; erases = f.erases; needed = f.needed; few = f.few; polled = f.polled; can = f.can };
+        suspended = f;
         apart = other d;
       }
