@@ -7,3 +7,4 @@ pub mod Tables
 pub mod Parts
 pub mod Listed
 pub mod FirstNo
+pub mod InLists
