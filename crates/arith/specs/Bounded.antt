@@ -77,6 +77,12 @@ module _ (p : ℕ → Bool) where
       (λ q. by_bool (some p n) (λ t. rw t) (λ f. rw (f, ← q) e))
       (λ l. rw (some_intro n i l e))
 
+  -- another statement that says the same below n
+  pub some_same : (q : ℕ → Bool) (n : ℕ) → ((i : ℕ) → i < n → p i ≡ q i) → some p n ≡ some q n
+  unfolding some
+  some_same q zero h = refl
+  some_same q (suc n) h = rw (some_same q n (λ i l. h i (omega arith)), h n (omega arith))
+
   -- the step of a loop that has found none below i
   pub some_none : (i : ℕ) → some p i ≡ false → p i ≡ false → some p (i + 1) ≡ false
   unfolding some
