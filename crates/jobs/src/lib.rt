@@ -12,82 +12,59 @@ use state::Job;
 pub fn is_pending(job: Job) -> bool
     ensures { result ≡ is_pending job }
 {
-    let status = job.status;
-    match status {
-        JobStatus::Idle => false,
-        JobStatus::Pending => true,
-        JobStatus::Cancelling => true,
-    }
+    matches!(job.status, JobStatus::Pending | JobStatus::Cancelling)
 }
 
 fn is_cancelling(job: Job) -> bool
     ensures { result ≡ is_cancelling job.status }
 {
-    let status = job.status;
-    match status {
-        JobStatus::Idle => false,
-        JobStatus::Pending => false,
-        JobStatus::Cancelling => true,
-    }
+    matches!(job.status, JobStatus::Cancelling)
 }
 
 // The job of an accepted task, whose first segment may take so many retries. The old result stands until it ends.
 pub fn begun(task: Task, retries: u8, old: Job) -> Job
     ensures { result ≡ begun_with retries task old }
 {
-    let result = old.result;
     Job {
         task,
         processed: 0,
         retries_left: retries,
         status: JobStatus::Pending,
-        result,
+        ..old
     }
 }
 
 pub fn ended(job: Job, given: JobResult) -> Job
     ensures { result ≡ ended given.0 job }
 {
-    let task = job.task;
     Job {
-        task,
-        processed: job.processed,
-        retries_left: job.retries_left,
         status: JobStatus::Idle,
         result: given,
+        ..job
     }
 }
 
 pub fn cancelled(job: Job) -> Job
     ensures { result ≡ cancelled job }
 {
-    let task = job.task;
-    let result = job.result;
     Job {
-        task,
-        processed: job.processed,
-        retries_left: job.retries_left,
         status: JobStatus::Cancelling,
-        result,
+        ..job
     }
 }
 
 fn moved(job: Job, processed: u32, retries: u8) -> Job
     ensures { result ≡ moved processed retries job }
 {
-    let task = job.task;
-    let status = job.status;
-    let result = job.result;
     Job {
-        task,
         processed,
         retries_left: retries,
-        status,
-        result,
+        ..job
     }
 }
 
 // After a request that failed.
+#[tactic(auto, unfolding(rules::specs::Machine::job_failed))]
 pub fn job_failed(job: Job) -> Job
     ensures { result ≡ job_failed job }
 {
@@ -101,6 +78,7 @@ pub fn job_failed(job: Job) -> Job
 }
 
 // After a request that was done with a byte that differs.
+#[tactic(auto, unfolding(rules::specs::Machine::job_differs))]
 pub fn job_differs(job: Job) -> Job
     ensures { result ≡ job_differs job }
 {
@@ -114,12 +92,11 @@ pub fn job_differs(job: Job) -> Job
 pub fn job_finished(job: Job, upto: u32, retries: u8) -> Job
     ensures { result ≡ after_finished (is_cancelling job.status) (leb job.task.length upto) upto retries job }
 {
+    let last = moved(job, upto, job.retries_left);
     if is_cancelling(job) {
-        let last = moved(job, upto, job.retries_left);
         return ended(last, JobResult::CANCELED);
     }
     if job.task.length <= upto {
-        let last = moved(job, upto, job.retries_left);
         return ended(last, JobResult::OK);
     }
     moved(job, upto, retries)

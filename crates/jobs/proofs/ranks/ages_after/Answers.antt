@@ -7,10 +7,12 @@ use Rattle.jobs.proofs.ranks.ages_after.Goals as goal
 
 pub loop-a-init : goal.loop-a-init
 unfolding table
-loop-a-init c = (omega arith, refl)
+loop-a-init c = refl
 
 pub loop-a-preserved : goal.loop-a-preserved
-loop-a-preserved c = (omega arith, (λ i. set (c.loop-a.invariant.1 i) c.loop-a.a ((c.age_after.ensures ∙ age_turn c.args.ages c.args.area c.loop-a.a (omega arith) (omega arith)) i)) ∙ sym (table_more 8 _ _ _))
+loop-a-preserved c =
+    (λ i. set (c.loop-a.invariant i) c.loop-a.a ((c.age_after.ensures ∙ age_turn c.args.ages c.args.area c.loop-a.a (omega arith) (omega arith)) i))
+    ∙ sym (table_more 8 _ _ _)
 
 pub returns : goal.returns
-returns c = c.loop-a.invariant.1 ∙ ap (table 8 _ 0) (omega arith)
+returns c = c.loop-a.invariant ∙ ap (table 8 _ 0) (omega arith)
