@@ -5,7 +5,7 @@ ghost use Rattle.std.specs.Prelude.{◌≡◌, ◌≤◌, length, take};
 ghost use Rattle.effects.specs.Effects.{memory_of};
 ghost use Rattle.session.specs.Fold.{played_all};
 ghost use Rattle.interface.specs.Queries.{query_view};
-ghost use Rattle.interface.specs.Views.{job_view, area_view, no_area_view, area_views, no_state_view, state_view, kept_view, device_view, no_device_view, device_views, load_view};
+ghost use Rattle.interface.specs.Views.{job_view, area_view, state_view, kept_view, device_view, load_view};
 
 pub mod query_views;
 
@@ -35,16 +35,17 @@ pub struct AreaView {
     pub waits: Waits,
 }
 
-// state: 0 nothing runs, 1 runs for the area, 2 locked for the area.
+// What a device does, or the erase that is suspended on it.
+// stays: `state` is a number, as the C interface has it (DeviceView in luvdrog_load).
 #[repr(C)]
-#[derive(Clone, Copy)]
+#[derive(Clone, Copy, Default)]
 pub struct StateView {
     pub state: u8,
     pub area: u8,
     pub polls: u16,
 }
 
-// state: 0 nothing is suspended, 1 the erase of the area.
+// does.state: 0 nothing runs, 1 runs for the area, 2 locked for the area. suspended.state: 0 nothing is suspended, 1 the erase of the area.
 #[repr(C)]
 #[derive(Clone, Copy)]
 pub struct DeviceView {
@@ -63,63 +64,39 @@ pub struct LoadView {
     pub wear: [u32; 32],
 }
 
-impl JobView {
-    fn of(job: Job) -> JobView
-        ensures { result ≡ job_view job }
-    {
-        let task = job.task;
-        let kind = task.kind;
-        let status = job.status;
-        let result = job.result;
-        let address = task.address;
+impl From<Job> for JobView {
+    ghost from_gives = { λ job view. view ≡ job_view job };
+
+    fn from(job: Job) -> JobView {
         JobView {
-            kind: kind.number(),
-            status: status.number(),
-            result,
+            kind: job.task.kind.number(),
+            status: job.status.number(),
+            result: job.result,
             retries_left: job.retries_left,
-            address,
-            length: task.length,
+            address: job.task.address,
+            length: job.task.length,
             processed: job.processed,
         }
     }
 }
 
-impl AreaView {
-    fn none() -> AreaView
-        ensures { result ≡ no_area_view }
-    {
-        let area = Area::fresh();
-        AreaView::of(area)
-    }
+impl From<Area> for AreaView {
+    ghost from_gives = { λ area view. view ≡ area_view area };
 
-    fn of(area: Area) -> AreaView
-        ensures { result ≡ area_view area }
-    {
-        let job = area.job;
-        let waits = area.waits;
+    fn from(area: Area) -> AreaView {
         AreaView {
-            job: JobView::of(job),
-            waits,
+            job: JobView::from(area.job),
+            waits: area.waits,
         }
     }
 }
 
-impl StateView {
-    fn none() -> StateView
-        ensures { result ≡ no_state_view }
-    {
-        StateView {
-            state: 0,
-            area: 0,
-            polls: 0,
-        }
-    }
+impl From<DeviceState> for StateView {
+    ghost from_gives = { λ state view. view ≡ state_view state };
 
-    fn of(state: DeviceState) -> StateView
-        ensures { result ≡ state_view state }
-    {
+    fn from(state: DeviceState) -> StateView {
         match state {
-            DeviceState::Free => StateView::none(),
+            DeviceState::Free => StateView::default(),
             DeviceState::Runs { area, polls } => StateView {
                 state: 1,
                 area,
@@ -132,12 +109,14 @@ impl StateView {
             },
         }
     }
+}
 
-    fn kept(suspended: Suspended) -> StateView
-        ensures { result ≡ kept_view suspended }
-    {
+impl From<Suspended> for StateView {
+    ghost from_gives = { λ suspended view. view ≡ kept_view suspended };
+
+    fn from(suspended: Suspended) -> StateView {
         match suspended {
-            Suspended::Nothing => StateView::none(),
+            Suspended::Nothing => StateView::default(),
             Suspended::Erase { area, polls } => StateView {
                 state: 1,
                 area,
@@ -147,48 +126,15 @@ impl StateView {
     }
 }
 
-impl DeviceView {
-    fn none() -> DeviceView
-        ensures { result ≡ no_device_view }
-    {
-        let device = Device::free();
-        DeviceView::of(device)
-    }
+impl From<Device> for DeviceView {
+    ghost from_gives = { λ device view. view ≡ device_view device };
 
-    fn of(device: Device) -> DeviceView
-        ensures { result ≡ device_view device }
-    {
-        let state = device.state;
-        let suspended = device.suspended;
+    fn from(device: Device) -> DeviceView {
         DeviceView {
-            does: StateView::of(state),
-            suspended: StateView::kept(suspended),
+            does: StateView::from(device.state),
+            suspended: StateView::from(device.suspended),
         }
     }
-}
-
-fn area_views(areas: [Area; 8]) -> [AreaView; 8]
-    ensures { result ≡ area_views areas }
-{
-    let mut views = [AreaView::none(); 8];
-    let mut i = 0;
-    while i < 8 {
-        views[i] = AreaView::of(areas[i]);
-        i += 1;
-    }
-    views
-}
-
-fn device_views(devices: [Device; 4]) -> [DeviceView; 4]
-    ensures { result ≡ device_views devices }
-{
-    let mut views = [DeviceView::none(); 4];
-    let mut i = 0;
-    while i < 4 {
-        views[i] = DeviceView::of(devices[i]);
-        i += 1;
-    }
-    views
 }
 
 #[unsafe(no_mangle)]
@@ -196,18 +142,14 @@ pub extern "C" fn luvdrog_load(bytes: &[u8]) -> LoadView
     ensures { result ≡ load_view bytes.now }
 {
     let loaded = Manager::load(bytes);
-    let answer = loaded.answer;
     let manager = loaded.manager;
-    let plan = manager.plan;
-    let areas = manager.areas;
-    let devices = manager.devices;
     let ages = manager.ages;
     let wear = manager.wear;
     LoadView {
-        number: answer.number(),
-        plan,
-        areas: area_views(areas),
-        devices: device_views(devices),
+        number: loaded.answer.number(),
+        plan: manager.plan,
+        areas: manager.areas.map(AreaView::from),
+        devices: manager.devices.map(DeviceView::from),
         ages,
         wear,
     }
@@ -271,12 +213,11 @@ pub extern "C" fn luvdrog_session_query(
     ensures queries_value { result.queries ≡ query_view (played_all plan.now input.now (length out.old) (memory_of image.old store.old)).manager area (record { 0 = address }) }
 {
     let played = play_all(plan, input, image, store, out);
-    let manager = played.manager;
     SessionQueryView {
         session: SessionView {
             used: played.used,
             written: played.written,
         },
-        queries: QueryView::of(manager, area, LogicalAddress(address)),
+        queries: QueryView::of(played.manager, area, LogicalAddress(address)),
     }
 }

@@ -86,9 +86,8 @@ impl StatusView {
         ensures { result ≡ status_view manager area }
     {
         let asked = manager.status(area);
-        let answer = asked.answer;
         StatusView {
-            number: answer.number(),
+            number: asked.answer.number(),
             status: asked.status,
         }
     }
@@ -99,11 +98,9 @@ impl ResultView {
         ensures { result ≡ result_view manager area }
     {
         let asked = manager.result(area);
-        let answer = asked.answer;
-        let result = asked.result;
         ResultView {
-            number: answer.number(),
-            result,
+            number: asked.answer.number(),
+            result: asked.result,
         }
     }
 }
@@ -113,9 +110,8 @@ impl ProcessedView {
         ensures { result ≡ processed_view manager area }
     {
         let asked = manager.processed(area);
-        let answer = asked.answer;
         ProcessedView {
-            number: answer.number(),
+            number: asked.answer.number(),
             processed: asked.processed,
         }
     }
@@ -126,27 +122,19 @@ impl JobInfoView {
         ensures { result ≡ job_info_view manager area }
     {
         let asked = manager.job_info(area);
-        let answer = asked.answer;
         let info = asked.info;
-        let task = info.task;
-        let kind = task.kind;
-        let address = task.address;
-        let result = info.result;
-        let waits = info.waits;
-        let request = info.request;
-        let start = request.start;
         JobInfoView {
-            number: answer.number(),
-            kind: kind.number(),
-            address,
-            length: task.length,
-            result,
+            number: asked.answer.number(),
+            kind: info.task.kind.number(),
+            address: info.task.address,
+            length: info.task.length,
+            result: info.result,
             processed: info.processed,
-            waits,
-            request_device: request.device,
-            request_start: start,
-            request_length: request.length,
-            request_polls: request.polls,
+            waits: info.waits,
+            request_device: info.request.device,
+            request_start: info.request.start,
+            request_length: info.request.length,
+            request_polls: info.request.polls,
         }
     }
 }
@@ -156,21 +144,15 @@ impl MemoryInfoView {
         ensures { result ≡ memory_info_view manager area address }
     {
         let asked = manager.memory_info(area, address);
-        let answer = asked.answer;
         let info = asked.info;
-        let logical_start = info.logical_start;
-        let physical_start = info.physical_start;
-        let erase = info.erase;
-        let write = info.write;
-        let read = info.read;
         MemoryInfoView {
-            number: answer.number(),
-            logical_start,
-            physical_start,
+            number: asked.answer.number(),
+            logical_start: info.logical_start,
+            physical_start: info.physical_start,
             max_offset: info.max_offset,
-            erase,
-            write,
-            read,
+            erase: info.erase,
+            write: info.write,
+            read: info.read,
             device: info.device,
         }
     }
@@ -181,12 +163,10 @@ impl WearInfoView {
         ensures { result ≡ wear_info_view manager area address }
     {
         let asked = manager.wear_info(area, address);
-        let answer = asked.answer;
-        let info = asked.info;
         WearInfoView {
-            number: answer.number(),
-            sum: info.sum,
-            charge: info.charge,
+            number: asked.answer.number(),
+            sum: asked.info.sum,
+            charge: asked.info.charge,
         }
     }
 }

@@ -1,9 +1,12 @@
-use mathlib.Core.Path.{◌∙◌}
-use Rattle.interface.specs.Views.{view_is}
+use Rattle.std.proofs.Common.{rules, ◌∙◌}
+use Rattle.state.specs.Fresh.{fresh_area, free_device}
+use Rattle.interface.specs.Views.{area_view, device_view, view_is}
+use Rattle.interface.proofs.Mapped.{mapped}
 use Rattle.interface.proofs.luvdrog_load.Goals as goal
 
 pub returns : goal.returns
 returns c =
-    let l = c.load-loaded.ensures in
-    rw (c.device_views.ensures, c.area_views.ensures)
-    (view_is _ _ c.load-loaded.result.manager (c.number.ensures ∙ l.answer_value) l.manager_value)
+    let l = c.load-loaded in
+    let areas = mapped _ area_view fresh_area 8 (λ p x y q h. search rules) c.map.ensures.items in
+    let devices = mapped _ device_view free_device 4 (λ p x y q h. search rules) c.map-2.ensures.items in
+    rw (areas, devices) (view_is _ _ l.result.manager (c.number.ensures ∙ l.ensures.answer_value) l.ensures.manager_value)

@@ -1,4 +1,0 @@
-use Rattle.interface.proofs.AreaView.of.Goals as goal
-
-pub returns : goal.returns
-returns c = rw c.of.ensures
