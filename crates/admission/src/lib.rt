@@ -9,13 +9,15 @@ ghost use Rattle.memory.specs.declared.Admission.TheVariants.{Accepted, Refused}
 ghost use Rattle.segment.specs.Mapping.{mapped};
 ghost use Rattle.segment.specs.Segments.{unit_of, segment_at};
 ghost use Rattle.admission.specs.AdmissionLaws.{retries_for};
-ghost use Rattle.admission.specs.RangeLaws.{is_found, offset_of, last_byte, Behind, back_from};
+ghost use Rattle.admission.specs.RangeLaws.{offset_of, last_byte, Behind, back_from};
 ghost use Rattle.rules.specs.Admission.{is_inside, uses_window, if_asked, lock_task, on_one_device, range_device, range_questions};
 
 use memory::{Admission, JobType, LogicalAddress, MemAddress, Refusal, Task};
 use multiples::is_multiple;
 use plan::records::{AreaRecord, Plan, SubAreaRecord};
-use segment::{Found, index_of, is_lock, locate, map_address, segment_at, segment_found, unit_of};
+use segment::{
+    FoundByte, index_of, is_lock, locate, map_address, segment_at, segment_found, unit_of,
+};
 
 // The answer to a job and, where it is accepted, how many retries its first segment may take: its questions have found that segment. Where it is refused that is 0.
 #[derive(Clone, Copy)]
@@ -44,30 +46,10 @@ impl JobAnswer {
     }
 }
 
-fn is_found(found: Found) -> bool
-    ensures { result ≡ is_found found }
-{
-    match found {
-        Found::Outside => false,
-        Found::At {
-            sub_area: _,
-            offset: _,
-            address: _,
-        } => true,
-    }
-}
-
-fn offset_of(found: Found) -> u64
+fn offset_of(found: Option<FoundByte>) -> u64
     ensures { result ≡ offset_of found }
 {
-    match found {
-        Found::Outside => 0,
-        Found::At {
-            sub_area: _,
-            offset,
-            address: _,
-        } => offset,
-    }
+    found.map_or(0, |byte| byte.offset)
 }
 
 // Where the last byte of a range lies: nowhere if the range has no byte, or begins before the area.
@@ -78,113 +60,88 @@ fn last_byte(
     area: usize,
     address: LogicalAddress,
     n: u32,
-) -> Found
+) -> Option<FoundByte>
     requires { count ≤ 32 }
     ensures { result ≡ last_byte sub_areas count start.0 area address.0 n }
 {
-    if n < 1 {
-        return Found::Outside;
-    }
-    if address.0 < start.0 {
-        return Found::Outside;
+    if n < 1 || address.0 < start.0 {
+        return None;
     }
     locate(sub_areas, count, start, area, address, n - 1)
 }
 
 // Question 12: is the range inside the area, and of at least one byte?
+#[tactic(auto, using(crate::specs::RangeLaws::last_inside))]
 pub fn is_inside(plan: Plan, area: usize, address: LogicalAddress, n: u32) -> bool
     requires { (plan.sub_area_count ≤ 32) × (area < 8) }
     ensures { result ≡ is_inside plan area address n }
 {
-    let record = plan.areas[area];
-    let start = record.start;
-    let last = last_byte(plan.sub_areas, plan.sub_area_count, start, area, address, n);
-    is_found(last)
+    last_byte(
+        plan.sub_areas,
+        plan.sub_area_count,
+        plan.areas[area].start,
+        area,
+        address,
+        n,
+    )
+    .is_some()
 }
 
 // The place so many bytes before one that was found, if it is in the same sub-area.
-fn back_from(found: Found, n: u64) -> Found
+fn back_from(found: Option<FoundByte>, n: u64) -> Option<FoundByte>
     requires { Behind found }
     ensures { result ≡ back_from found n }
 {
-    match found {
-        Found::Outside => Found::Outside,
-        Found::At {
-            sub_area,
-            offset,
-            address,
-        } => {
-            if offset < n {
-                return Found::Outside;
-            }
-            let start = address.0 - n;
-            Found::At {
-                sub_area,
-                offset: offset - n,
-                address: MemAddress(start),
-            }
-        }
+    let byte = found?;
+    if byte.offset < n {
+        return None;
     }
+    Some(FoundByte {
+        offset: byte.offset - n,
+        address: MemAddress(byte.address.0 - n),
+        ..byte
+    })
 }
 
 // Where the first byte of a range lies whose last was found. Most ranges lie in one sub-area, so a second lookup is rare.
-fn first_byte(plan: Plan, area: usize, task: Task, last: Found) -> Found
+#[tactic(auto, using(crate::specs::RangeLaws::mapped_behind, crate::specs::RangeLaws::back_mapped))]
+fn first_byte(plan: Plan, area: usize, task: Task, last: Option<FoundByte>) -> Option<FoundByte>
     requires { (plan.sub_area_count ≤ 32) × (area < 8) × (1 ≤ task.length) × (last ≡ mapped plan area (record { 0 = task.address.0 + task.length - 1 })) }
     ensures { result ≡ mapped plan area task.address }
 {
     let near = back_from(last, (task.length as u64) - 1);
-    if is_found(near) {
+    if near.is_some() {
         return near;
     }
-    let address = task.address;
-    map_address(plan, area, address)
+    map_address(plan, area, task.address)
 }
 
 // Question 13: do start and end of the range lie on a unit of the sub-areas they are in?
 fn is_aligned(
     kind: JobType,
     begins: SubAreaRecord,
-    first: Found,
+    first: Option<FoundByte>,
     ends: SubAreaRecord,
-    last: Found,
+    last: Option<FoundByte>,
 ) -> bool
     requires { offset_of last ≤ 8589934591 }
     ensures { result ≡ (multiple (unit_of kind begins) (offset_of first) && multiple (unit_of kind ends) (offset_of last + 1)) }
 {
-    let first_unit = unit_of(kind, begins);
-    let from = offset_of(first);
-    if !is_multiple(first_unit as u64, from) {
-        return false;
-    }
-    let last_unit = unit_of(kind, ends);
-    let upto = offset_of(last);
-    is_multiple(last_unit as u64, upto + 1)
+    is_multiple(unit_of(kind, begins) as u64, offset_of(first))
+        && is_multiple(unit_of(kind, ends) as u64, offset_of(last) + 1)
 }
 
 pub fn uses_window(kind: JobType) -> bool
     ensures { result ≡ uses_window kind }
 {
-    match kind {
-        JobType::Write => true,
-        JobType::Read => true,
-        JobType::Compare => true,
-        JobType::Erase => false,
-        JobType::BlankCheck => false,
-        JobType::Lock => false,
-        JobType::NoJob => false,
-    }
+    matches!(kind, JobType::Write | JobType::Read | JobType::Compare)
 }
 
 // Question 14: is the range, if its kind uses the window, no longer than that?
 fn fits_window(record: AreaRecord, task: Task) -> bool
     ensures { result ≡ if_asked (uses_window task.kind) (leb task.length «record».window.length) }
 {
-    let kind = task.kind;
-    if !uses_window(kind) {
-        return true;
-    }
-    let longest = record.window.length;
-    task.length <= longest
+    !uses_window(task.kind) || task.length <= record.window.length
 }
 
 fn lock_task(address: LogicalAddress, n: u32) -> Task
@@ -202,9 +159,7 @@ pub fn range_device(plan: Plan, area: usize, address: LogicalAddress, n: u32) ->
     requires { (plan.sub_area_count ≤ 32) × (area < 8) }
     ensures { result ≡ range_device plan area address n }
 {
-    let task = lock_task(address, n);
-    let first = segment_at(plan, area, task, 0);
-    first.device
+    segment_at(plan, area, lock_task(address, n), 0).device
 }
 
 // Question 15: is every part of the range on the device of the first?
@@ -237,7 +192,7 @@ pub fn range_admission(plan: Plan, area: usize, task: Task) -> JobAnswer
     let address = task.address;
     let n = task.length;
     let last = last_byte(plan.sub_areas, plan.sub_area_count, start, area, address, n);
-    if !is_found(last) {
+    if last.is_none() {
         return JobAnswer::refused(Refusal::Range);
     }
     let kind = task.kind;

@@ -1,5 +1,6 @@
 -- Cutting alone: the burst test over two lists, and the segments of a job one after the other.
-use Rattle.std.specs.Prelude.{ℕ, ◌+◌, ◌-◌, ◌%◌, min, List, ltb, length, get_or}
+use Rattle.std.specs.Prelude.{ℕ, ◌+◌, ◌-◌, ◌%◌, min, List, Some, None, ltb, length, get_or}
+use Rattle.std.specs.declared.option.Option.{Option}
 use Rattle.arith.specs.Bounded.{sum}
 use Rattle.arith.specs.Cases.{pick}
 use Rattle.arith.specs.Multiples.{multiple}
@@ -8,8 +9,7 @@ use Rattle.plan.specs.Questions.{sub_area_of, size_of}
 use Rattle.plan.specs.declared.records.Plan.{Plan}
 use Rattle.plan.specs.declared.records.SubAreaRecord.{SubAreaRecord}
 use Rattle.segment.specs.Segments.{segment_at}
-use Rattle.segment.specs.declared.Found.{Found}
-use Rattle.segment.specs.declared.Found.TheVariants.{Outside, At}
+use Rattle.segment.specs.declared.FoundByte.{FoundByte}
 use Rattle.segment.specs.laws.Found.{segment_if}
 use Rattle.loops.specs.Repeated.{total}
 
@@ -34,8 +34,8 @@ abbrev pub cut_total : Plan → Task → ℕ → ℕ
 cut_total p t = total (next_cut p t) (next_cut p t) 0
 
 -- where byte x of a sub-area lies
-abbrev pub place_in : SubAreaRecord → ℕ → Found
-place_in s x = pick (ltb x (size_of s)) (At 0 x (record { 0 = s.start + x })) Outside
+abbrev pub place_in : SubAreaRecord → ℕ → Option FoundByte
+place_in s x = pick (ltb x (size_of s)) (Some (record { sub_area = 0; offset = x; address = record { 0 = s.start + x } })) None
 
 -- the same of a task that begins with sub-area s
 abbrev pub placed_cut : Task → ℕ → SubAreaRecord → ℕ

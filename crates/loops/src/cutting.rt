@@ -11,7 +11,7 @@ use manager::Manager;
 use memory::MemAddress;
 use multiples::is_multiple;
 use plan::records::SubAreaRecord;
-use segment::{Found, segment_at, segment_found};
+use segment::{FoundByte, segment_at, segment_found};
 use transfer::least;
 
 fn one_if(yes: bool) -> u64
@@ -68,19 +68,19 @@ pub fn cuts(plan: &[u8], kind: u8, length: u32, times: u32) -> u64
 }
 
 // Where a byte of the sub-area lies.
-fn place_in(sub_area: SubAreaRecord, byte: u32) -> Found
+fn place_in(sub_area: SubAreaRecord, byte: u32) -> Option<FoundByte>
     ensures { (result ≡ place_in sub_area byte) × Inside sub_area result }
 {
     let offset = byte as u64;
     if offset < sub_area.size() {
         let address = MemAddress((sub_area.start as u64) + offset);
-        return Found::At {
+        return Some(FoundByte {
             sub_area: 0,
             offset,
             address,
-        };
+        });
     }
-    Found::Outside
+    None
 }
 
 // The same without the lookup: a job that begins with its sub-area, cut in the 32 records in turn, so that no test of a size can be made before its turn.

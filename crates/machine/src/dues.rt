@@ -8,7 +8,7 @@ use jobs::is_pending;
 use memory::LogicalAddress;
 use plan::checks::device_sum;
 use plan::records::{AreaRecord, DeviceRecord, SubAreaRecord};
-use segment::{Found, Segment, index_of, locate, no_segment, segment_found};
+use segment::{FoundByte, Segment, index_of, locate, no_segment, segment_found};
 use state::{Area, Device, Job};
 
 // Where the next byte of a pending job lies.
@@ -18,16 +18,21 @@ fn locate_due(
     start: LogicalAddress,
     area: usize,
     job: Job,
-) -> Found
+) -> Option<FoundByte>
     requires { count ≤ 32 }
     ensures { result ≡ due_found sub_areas count start.0 area job }
 {
     if !is_pending(job) {
-        return Found::Outside;
+        return None;
     }
-    let task = job.task;
-    let address = task.address;
-    locate(sub_areas, count, start, area, address, job.processed)
+    locate(
+        sub_areas,
+        count,
+        start,
+        area,
+        job.task.address,
+        job.processed,
+    )
 }
 
 // For a round's questions (`questions`). One copy of the records serves all lookups of the loop; `segment_from` would make one more for each.

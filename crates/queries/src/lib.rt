@@ -13,7 +13,7 @@ ghost use Rattle.devices.specs.Arrays.{job_in, state_in, core_in};
 use devices::{held_somewhere, state_on};
 use memory::{LogicalAddress, MemAddress};
 use plan::records::{Granularity, Plan, SubAreaRecord};
-use segment::{Found, Segment, map_address, segment_at};
+use segment::{Segment, map_address, segment_at};
 use state::{Area, Device, DeviceState, JobInfo, MemoryInfo, RequestInfo, WearInfo};
 use wear::charge_of;
 
@@ -131,21 +131,14 @@ fn memory_in(address: LogicalAddress, sub_area: SubAreaRecord, offset: u64) -> M
     }
 }
 
+#[tactic(auto, using(crate::specs::laws::QueryLaws::found_few, crate::specs::laws::QueryLaws::memory_outside, crate::specs::laws::QueryLaws::memory_inside))]
 pub fn memory_info(plan: Plan, area: usize, address: LogicalAddress) -> MemoryInfo
     requires { (plan.sub_area_count ≤ 32) × (area < 8) }
     ensures { result ≡ memory_info_of plan area address }
 {
-    let found = map_address(plan, area, address);
-    match found {
-        Found::Outside => no_memory(),
-        Found::At {
-            sub_area,
-            offset,
-            address: _,
-        } => {
-            let records = plan.sub_areas;
-            memory_in(address, records[sub_area], offset)
-        }
+    match map_address(plan, area, address) {
+        None => no_memory(),
+        Some(byte) => memory_in(address, plan.sub_areas[byte.sub_area], byte.offset),
     }
 }
 
@@ -157,23 +150,17 @@ pub fn no_wear() -> WearInfo
 }
 
 // The wear of the sub-area in which the address lies, by the sums of the sub-areas.
+#[tactic(auto, using(crate::specs::laws::QueryLaws::found_few, crate::specs::laws::QueryLaws::wear_outside))]
 pub fn wear_info(plan: Plan, wear: [u32; 32], area: usize, address: LogicalAddress) -> WearInfo
     requires { (plan.sub_area_count ≤ 32) × (area < 8) }
     ensures { result ≡ wear_info_of plan (worn_at wear) area address }
 {
-    let found = map_address(plan, area, address);
-    match found {
-        Found::Outside => no_wear(),
-        Found::At {
-            sub_area,
-            offset: _,
-            address: _,
-        } => {
-            let records = plan.sub_areas;
-            let endurances = plan.endurance;
-            let record = records[sub_area];
-            let sum = wear[sub_area];
-            let charge = charge_of(sum, endurances[sub_area], record.sector_count);
+    match map_address(plan, area, address) {
+        None => no_wear(),
+        Some(byte) => {
+            let i = byte.sub_area;
+            let sum = wear[i];
+            let charge = charge_of(sum, plan.endurance[i], plan.sub_areas[i].sector_count);
             WearInfo { sum, charge }
         }
     }

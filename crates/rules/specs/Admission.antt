@@ -1,5 +1,6 @@
 -- document 01, "Questions at the door": questions 10 to 19
-use Rattle.std.specs.Prelude.{ℕ, zero, suc, ◌+◌, ◌-◌, Bool, true, false, not, ◌&&◌, List, [], ◌∷◌, ltb, leb, eqb, length}
+use Rattle.std.specs.Prelude.{ℕ, zero, suc, ◌+◌, ◌-◌, Bool, true, false, not, ◌&&◌, List, [], ◌∷◌, Some, None, ltb, leb, eqb, length}
+use Rattle.std.specs.declared.option.Option.{Option}
 use Rattle.arith.specs.Bounded.{every}
 use Rattle.arith.specs.Cases.{pick}
 use Rattle.arith.specs.FirstNo.{first_no}
@@ -13,8 +14,7 @@ use Rattle.plan.specs.declared.records.Plan.{Plan}
 use Rattle.plan.specs.declared.records.SubAreaRecord.{SubAreaRecord}
 use Rattle.segment.specs.Mapping.{mapped}
 use Rattle.segment.specs.Segments.{is_lock, unit_of, segment_at, segments_from, spans}
-use Rattle.segment.specs.declared.Found.{Found}
-use Rattle.segment.specs.declared.Found.TheVariants.{Outside, At}
+use Rattle.segment.specs.declared.FoundByte.{FoundByte}
 use Rattle.state.specs.declared.DeviceState.{DeviceState}
 use Rattle.state.specs.declared.DeviceState.TheVariants.{Free, Runs, LockedFor}
 use Rattle.rules.specs.Machine.{Core, is_pending}
@@ -35,14 +35,14 @@ is_inside p a address n =
     && leb (address.0 + n) ((area_of p.areas a).start.0 + area_size p.sub_areas p.sub_area_count a))
 
 -- 13. "Is the offset in the first sub-area, and the end in the last, a multiple of the unit there?"
-abbrev pub starts_on_unit : JobType → List SubAreaRecord → Found → Bool
-starts_on_unit k l Outside = false
-starts_on_unit k l (At i y m) = multiple (unit_of k (sub_area_of l i)) y
+abbrev pub starts_on_unit : JobType → List SubAreaRecord → Option FoundByte → Bool
+starts_on_unit k l None = false
+starts_on_unit k l (Some byte) = multiple (unit_of k (sub_area_of l byte.sub_area)) byte.offset
 
 -- the end is one past the last byte, which the place is of
-abbrev pub ends_on_unit : JobType → List SubAreaRecord → Found → Bool
-ends_on_unit k l Outside = false
-ends_on_unit k l (At i y m) = multiple (unit_of k (sub_area_of l i)) (y + 1)
+abbrev pub ends_on_unit : JobType → List SubAreaRecord → Option FoundByte → Bool
+ends_on_unit k l None = false
+ends_on_unit k l (Some byte) = multiple (unit_of k (sub_area_of l byte.sub_area)) (byte.offset + 1)
 
 unfoldable pub is_aligned : Plan → ℕ → Task → Bool
 is_aligned p a t =

@@ -1,5 +1,6 @@
 -- document 01, "Queries": what the accepted ones give
-use Rattle.std.specs.Prelude.{ℕ, ◌-◌, eqb}
+use Rattle.std.specs.Prelude.{ℕ, ◌-◌, Some, None, eqb}
+use Rattle.std.specs.declared.option.Option.{Option}
 use Rattle.memory.specs.declared.LogicalAddress.{LogicalAddress}
 use Rattle.plan.specs.Questions.{sub_area_of, size_of}
 use Rattle.plan.specs.Records.{no_granularity}
@@ -7,8 +8,7 @@ use Rattle.plan.specs.declared.records.Plan.{Plan}
 use Rattle.plan.specs.declared.records.SubAreaRecord.{SubAreaRecord}
 use Rattle.arith.specs.Cases.{pick}
 use Rattle.segment.specs.Mapping.{mapped}
-use Rattle.segment.specs.declared.Found.{Found}
-use Rattle.segment.specs.declared.Found.TheVariants.{Outside, At}
+use Rattle.segment.specs.declared.FoundByte.{FoundByte}
 use Rattle.segment.specs.declared.Segment.{Segment}
 use Rattle.state.specs.declared.DeviceState.{DeviceState}
 use Rattle.state.specs.declared.DeviceState.TheVariants.{Free, Runs, LockedFor}
@@ -65,9 +65,9 @@ no_memory_info =
       device = 0;
     }
 
-abbrev pub memory_info_at : Plan → LogicalAddress → Found → MemoryInfo
-memory_info_at p address Outside = no_memory_info
-memory_info_at p address (At i y m) = memory_info_in address (sub_area_of p.sub_areas i) y
+abbrev pub memory_info_at : Plan → LogicalAddress → Option FoundByte → MemoryInfo
+memory_info_at p address None = no_memory_info
+memory_info_at p address (Some byte) = memory_info_in address (sub_area_of p.sub_areas byte.sub_area) byte.offset
 
 unfoldable pub memory_info_of : Plan → ℕ → LogicalAddress → MemoryInfo
 memory_info_of p a address = memory_info_at p address (mapped p a address)

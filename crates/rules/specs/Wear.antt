@@ -1,12 +1,12 @@
 -- document 02, 05: the wear account
-use Rattle.std.specs.Prelude.{ℕ, ◌+◌, min, List, [], ◌∷◌, eqb, get_or, set}
+use Rattle.std.specs.Prelude.{ℕ, ◌+◌, min, List, [], ◌∷◌, Some, None, eqb, get_or, set}
+use Rattle.std.specs.declared.option.Option.{Option}
 use Rattle.arith.specs.Cases.{pick}
 use Rattle.memory.specs.declared.LogicalAddress.{LogicalAddress}
 use Rattle.plan.specs.Questions.{sub_area_of}
 use Rattle.plan.specs.declared.records.Plan.{Plan}
 use Rattle.segment.specs.Mapping.{mapped}
-use Rattle.segment.specs.declared.Found.{Found}
-use Rattle.segment.specs.declared.Found.TheVariants.{Outside, At}
+use Rattle.segment.specs.declared.FoundByte.{FoundByte}
 use Rattle.segment.specs.declared.Segment.{Segment}
 use Rattle.state.specs.declared.WearInfo.{WearInfo}
 use Rattle.wear.specs.Wear.{most_wear, sectors_in, worn_to, charge_of}
@@ -39,10 +39,10 @@ abbrev pub no_wear_info : WearInfo
 no_wear_info = record { sum = 0; charge = 0 }
 
 -- "A query, addressed .. like memory info, gives the sum of the sub-area there and its charge": by the sum of each sub-area
-abbrev pub wear_info_at : Plan → (ℕ → ℕ) → Found → WearInfo
-wear_info_at p sums Outside = no_wear_info
-wear_info_at p sums (At i y m) =
-    record { sum = sums i; charge = charge_of (sums i) (get_or p.endurance i 0) (sub_area_of p.sub_areas i).sector_count }
+abbrev pub wear_info_at : Plan → (ℕ → ℕ) → Option FoundByte → WearInfo
+wear_info_at p sums None = no_wear_info
+wear_info_at p sums (Some byte) =
+    let i = byte.sub_area in record { sum = sums i; charge = charge_of (sums i) (get_or p.endurance i 0) (sub_area_of p.sub_areas i).sector_count }
 
 unfoldable pub wear_info_of : Plan → (ℕ → ℕ) → ℕ → LogicalAddress → WearInfo
 wear_info_of p sums a address = wear_info_at p sums (mapped p a address)

@@ -1,11 +1,11 @@
 -- document 00, demand 2: the bytes of a job's segments, and a job's mapped bytes
-use Rattle.std.specs.Prelude.{ℕ, ◌+◌, List, [], ◌∷◌, ◌++◌}
+use Rattle.std.specs.Prelude.{ℕ, ◌+◌, List, [], ◌∷◌, ◌++◌, Some, None}
+use Rattle.std.specs.declared.option.Option.{Option}
 use Rattle.memory.specs.declared.Task.{Task}
 use Rattle.plan.specs.declared.records.Plan.{Plan}
 use Rattle.arith.specs.Listed.{listed}
 use Rattle.segment.specs.Mapping.{mapped}
-use Rattle.segment.specs.declared.Found.{Found}
-use Rattle.segment.specs.declared.Found.TheVariants.{Outside, At}
+use Rattle.segment.specs.declared.FoundByte.{FoundByte}
 use Rattle.segment.specs.declared.Segment.{Segment}
 
 -- the physical addresses of a segment: its start, the next, .., as many as it is long
@@ -18,9 +18,9 @@ joined [] = []
 joined (s ∷ l) = bytes_of s ++ joined l
 
 -- the physical address of a place that the lookup found
-abbrev pub physical : Found → ℕ
-physical Outside = 0
-physical (At i y m) = m.0
+abbrev pub physical : Option FoundByte → ℕ
+physical None = 0
+physical (Some byte) = byte.address.0
 
 -- "only the mapping turns the first into the second": the physical address of byte x of area a's job
 unfoldable pub mapped_byte : Plan → ℕ → Task → ℕ → ℕ

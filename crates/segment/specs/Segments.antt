@@ -1,5 +1,6 @@
 -- document 01, "The mapping and the pieces": how a job is cut. A piece is a segment here, a stretch a device span.
-use Rattle.std.specs.Prelude.{ℕ, zero, suc, ◌+◌, ◌-◌, ◌*◌, min, Bool, true, false, ◌&&◌, List, [], ◌∷◌, leb, eqb}
+use Rattle.std.specs.Prelude.{ℕ, zero, suc, ◌+◌, ◌-◌, ◌*◌, min, Bool, true, false, ◌&&◌, List, [], ◌∷◌, Some, None, leb, eqb}
+use Rattle.std.specs.declared.option.Option.{Option}
 use Rattle.arith.specs.Cases.{pick}
 use Rattle.arith.specs.Multiples.{multiple}
 use Rattle.memory.specs.declared.JobType.{JobType}
@@ -10,8 +11,7 @@ use Rattle.plan.specs.declared.records.Granularity.{Granularity}
 use Rattle.plan.specs.declared.records.Plan.{Plan}
 use Rattle.plan.specs.declared.records.SubAreaRecord.{SubAreaRecord}
 use Rattle.segment.specs.Mapping.{mapped}
-use Rattle.segment.specs.declared.Found.{Found}
-use Rattle.segment.specs.declared.Found.TheVariants.{Outside, At}
+use Rattle.segment.specs.declared.FoundByte.{FoundByte}
 use Rattle.segment.specs.declared.Segment.{Segment}
 
 abbrev pub is_lock : JobType → Bool
@@ -82,9 +82,9 @@ segment_in k i s y r =
 abbrev pub no_segment : Segment
 no_segment = record { start = record { 0 = 0 }; length = 0; device = 0; retries = 0; sub_area = 0; sector = 0 }
 
-abbrev pub segment_of : JobType → List SubAreaRecord → ℕ → Found → Segment
-segment_of k l r Outside = no_segment
-segment_of k l r (At i y m) = segment_in k i (sub_area_of l i) y r
+abbrev pub segment_of : JobType → List SubAreaRecord → ℕ → Option FoundByte → Segment
+segment_of k l r None = no_segment
+segment_of k l r (Some byte) = segment_in k byte.sub_area (sub_area_of l byte.sub_area) byte.offset r
 
 -- the segment of area a's job that is due once x bytes are processed
 unfoldable pub segment_at : Plan → ℕ → Task → ℕ → Segment

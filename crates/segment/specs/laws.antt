@@ -1,4 +1,3 @@
-pub mod Lookup
 pub mod MappingLaws
 pub mod LengthLaws
 pub mod CutLaws

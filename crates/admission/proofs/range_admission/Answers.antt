@@ -3,15 +3,16 @@ use Rattle.admission.specs.RangeLaws.{last_none, last_found, lock_first, inside_
 use Rattle.admission.specs.AdmissionLaws.{refuses, range_outside, range_split, accepts, range_locks, range_unaligned, range_long, range_fits}
 use native.Mathlib.Omega.{arith}
 use Prim.Native.Nat.{◌+◌, ◌-◌}
-use mathlib.Core.Path.{sym, ◌∙◌}
+use mathlib.Core.Path.{sym, ap, ◌∙◌}
+use Rattle.std.specs.Prelude.{not}
 use Rattle.admission.proofs.range_admission.Goals as goal
 
-pub returns-then-not-is_found : goal.returns-then-not-is_found
-returns-then-not-is_found c =
+pub returns-then-is_none : goal.returns-then-is_none
+returns-then-is_none c =
     let p = c.args.plan in
     let a = c.args.area in
     let t = c.args.task in
-    let both = refuses _ _ c.refused.ensures _ (range_outside p a t (last_none p a t.address t.length _ c.last_byte-last.ensures (sym c.is_found.ensures ∙ c.if-not-is_found.true))) _ in
+    let both = refuses _ _ c.refused.ensures _ (range_outside p a t (last_none p a t.address t.length _ c.last_byte-last.ensures (c.is_none.ensures ∙ ap not c.if-is_none.true))) _ in
     record { answer_value = both.0; retries_value = both.1 }
 
 pub on_one_device-requires : goal.on_one_device-requires
@@ -19,7 +20,7 @@ on_one_device-requires c =
     let p = c.args.plan in
     let a = c.args.area in
     let t = c.args.task in
-    let found = sym c.is_found.ensures ∙ c.if-not-is_found.false in
+    let found = c.is_none.ensures ∙ ap not c.if-is_none.false in
     let here = last_found p a t.address t.length _ c.last_byte-last.ensures found in
     (c.requires.0, c.requires.1, here.0)
 
@@ -28,7 +29,7 @@ returns-then-not-on_one_device c =
     let p = c.args.plan in
     let a = c.args.area in
     let t = c.args.task in
-    let found = sym c.is_found.ensures ∙ c.if-not-is_found.false in
+    let found = c.is_none.ensures ∙ ap not c.if-is_none.false in
     let here = last_found p a t.address t.length _ c.last_byte-last.ensures found in
     let lock = sym c.is_lock.ensures ∙ c.if-is_lock.true in
     let both = refuses _ _ c.refused-then-not-on_one_device.ensures _ (range_split p a t here.0 lock (sym c.on_one_device.ensures ∙ c.if-not-on_one_device.true)) _ in
@@ -39,7 +40,7 @@ returns-then-is_lock c =
     let p = c.args.plan in
     let a = c.args.area in
     let t = c.args.task in
-    let found = sym c.is_found.ensures ∙ c.if-not-is_found.false in
+    let found = c.is_none.ensures ∙ ap not c.if-is_none.false in
     let here = last_found p a t.address t.length _ c.last_byte-last.ensures found in
     let lock = sym c.is_lock.ensures ∙ c.if-is_lock.true in
     let both = accepts _ _ c.accepted.ensures _ (range_locks p a t here.0 lock (sym c.on_one_device.ensures ∙ c.if-not-on_one_device.false)) _ (lock_first p a t lock) in
@@ -50,7 +51,7 @@ first_byte-first-requires c =
     let p = c.args.plan in
     let a = c.args.area in
     let t = c.args.task in
-    let found = sym c.is_found.ensures ∙ c.if-not-is_found.false in
+    let found = c.is_none.ensures ∙ ap not c.if-is_none.false in
     let here = last_found p a t.address t.length _ c.last_byte-last.ensures found in
     (c.requires.0, c.requires.1, inside_some p a t.address t.length here.0, here.1)
 
@@ -75,7 +76,7 @@ offset_bounds-plan-j c =
     let p = c.args.plan in
     let a = c.args.area in
     let t = c.args.task in
-    let found = sym c.is_found.ensures ∙ c.if-not-is_found.false in
+    let found = c.is_none.ensures ∙ ap not c.if-is_none.false in
     let here = last_found p a t.address t.length _ c.last_byte-last.ensures found in
     let few = mapped_index p a (t.address.0 + t.length - 1) c.requires.0 _ here.1 in
     omega (arith, few, c.index_of-j.ensures)
@@ -85,7 +86,7 @@ bounds-plan-j c =
     let p = c.args.plan in
     let a = c.args.area in
     let t = c.args.task in
-    let found = sym c.is_found.ensures ∙ c.if-not-is_found.false in
+    let found = c.is_none.ensures ∙ ap not c.if-is_none.false in
     let here = last_found p a t.address t.length _ c.last_byte-last.ensures found in
     let few = mapped_index p a (t.address.0 + t.length - 1) c.requires.0 _ here.1 in
     omega (arith, few, c.index_of-j.ensures)
@@ -95,7 +96,7 @@ is_aligned-requires c =
     let p = c.args.plan in
     let a = c.args.area in
     let t = c.args.task in
-    let found = sym c.is_found.ensures ∙ c.if-not-is_found.false in
+    let found = c.is_none.ensures ∙ ap not c.if-is_none.false in
     let here = last_found p a t.address t.length _ c.last_byte-last.ensures found in
     let few = mapped_offset p a (t.address.0 + t.length - 1) _ here.1 in
     omega (arith, few)
@@ -105,7 +106,7 @@ returns-then-not-is_aligned c =
     let p = c.args.plan in
     let a = c.args.area in
     let t = c.args.task in
-    let found = sym c.is_found.ensures ∙ c.if-not-is_found.false in
+    let found = c.is_none.ensures ∙ ap not c.if-is_none.false in
     let here = last_found p a t.address t.length _ c.last_byte-last.ensures found in
     let job = sym c.is_lock.ensures ∙ c.if-is_lock.false in
     let aligned = sym (aligned_ends p a t _ c.first_byte-first.ensures _ found here _ _ c.index_of-i.ensures c.index_of-j.ensures _ c.is_aligned.ensures) in
@@ -118,7 +119,7 @@ returns-then-not-fits_window c =
     let p = c.args.plan in
     let a = c.args.area in
     let t = c.args.task in
-    let found = sym c.is_found.ensures ∙ c.if-not-is_found.false in
+    let found = c.is_none.ensures ∙ ap not c.if-is_none.false in
     let here = last_found p a t.address t.length _ c.last_byte-last.ensures found in
     let job = sym c.is_lock.ensures ∙ c.if-is_lock.false in
     let aligned = sym (aligned_ends p a t _ c.first_byte-first.ensures _ found here _ _ c.index_of-i.ensures c.index_of-j.ensures _ c.is_aligned.ensures) in
@@ -134,7 +135,7 @@ returns c =
     let p = c.args.plan in
     let a = c.args.area in
     let t = c.args.task in
-    let found = sym c.is_found.ensures ∙ c.if-not-is_found.false in
+    let found = c.is_none.ensures ∙ ap not c.if-is_none.false in
     let here = last_found p a t.address t.length _ c.last_byte-last.ensures found in
     let job = sym c.is_lock.ensures ∙ c.if-is_lock.false in
     let aligned = sym (aligned_ends p a t _ c.first_byte-first.ensures _ found here _ _ c.index_of-i.ensures c.index_of-j.ensures _ c.is_aligned.ensures) in

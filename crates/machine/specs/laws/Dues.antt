@@ -1,5 +1,6 @@
 -- A round finds the due segments of all pending jobs once: the soundness test with them is question 9.
-use Rattle.std.specs.Prelude.{ℕ, ◌+◌, ◌-◌, ◌≤◌, ◌<◌, Bool, true, false, List, ◌≡◌, ltb, get_or}
+use Rattle.std.specs.Prelude.{ℕ, ◌+◌, ◌-◌, ◌≤◌, ◌<◌, Bool, true, false, List, None, ◌≡◌, ltb, get_or}
+use Rattle.std.specs.declared.option.Option.{Option}
 use Rattle.std.proofs.Common.{true≢false, sym, ap, ◌∙◌}
 use Rattle.std.proofs.Math.Path.{refl, fun_ext}
 use native.Mathlib.Omega.{arith}
@@ -16,8 +17,7 @@ use Rattle.rules.specs.Machine.{is_pending}
 use Rattle.segment.specs.laws.Found.{index_of, Inside, segment_if, index_within, offset_inside, if_found, segment_from_lem}
 use Rattle.segment.specs.Mapping.{located}
 use Rattle.segment.specs.Segments.{no_segment, segment_at, segment_of}
-use Rattle.segment.specs.declared.Found.{Found}
-use Rattle.segment.specs.declared.Found.TheVariants.{Outside}
+use Rattle.segment.specs.declared.FoundByte.{FoundByte}
 use Rattle.segment.specs.declared.Segment.{Segment}
 use Rattle.state.specs.declared.Area.{Area}
 use Rattle.state.specs.declared.Device.{Device}
@@ -28,8 +28,8 @@ use Rattle.devices.specs.Arrays.{job_in, state_in}
 use Rattle.machine.specs.Sound.{job_runs, request_fits, request_sound, state_sound, is_sound}
 use Rattle.machine.specs.laws.SoundCases.{devices_decide, counts_few}
 
-abbrev pub due_found : List SubAreaRecord → ℕ → ℕ → ℕ → Job → Found
-due_found l n start a j = pick (is_pending j) (located l n start a (j.task.address.0 + j.processed)) Outside
+abbrev pub due_found : List SubAreaRecord → ℕ → ℕ → ℕ → Job → Option FoundByte
+due_found l n start a j = pick (is_pending j) (located l n start a (j.task.address.0 + j.processed)) None
 
 -- the due segment of area a's job, if it is pending
 abbrev pub due_of : List SubAreaRecord → ℕ → List AreaRecord → List Area → ℕ → Segment
@@ -41,20 +41,20 @@ unfoldable pub dues_of : List SubAreaRecord → ℕ → List AreaRecord → List
 dues_of l n records areas = table 8 (due_of l n records areas) no_segment 8
 
 -- a turn of the loop over the areas
-module _ (l : List SubAreaRecord) (n start a : ℕ) (j : Job) (f : Found) (e : f ≡ due_found l n start a j) where
+module _ (l : List SubAreaRecord) (n start a : ℕ) (j : Job) (f : Option FoundByte) (e : f ≡ due_found l n start a j) where
   abbrev at : ℕ
   at = j.task.address.0 + j.processed
 
   pub due_index : n ≤ 32 → index_of f < 32
   due_index few =
       by_bool (is_pending j)
-      (λ t. index_within l a n start at f (e ∙ ap (λ u. pick u (located l n start a at) Outside) t) few)
+      (λ t. index_within l a n start at f (e ∙ ap (λ u. pick u (located l n start a at) None) t) few)
       (λ t. rw (e, t) (omega arith))
 
   pub due_inside : n ≤ 32 → Inside (sub_area_of l (index_of f)) f
   due_inside few =
       by_bool (is_pending j)
-      (λ t. offset_inside l a n start at f (e ∙ ap (λ u. pick u (located l n start a at) Outside) t) few)
+      (λ t. offset_inside l a n start at f (e ∙ ap (λ u. pick u (located l n start a at) None) t) few)
       (λ t. rw (e, t) tt)
 
   pub due_turn : (i : ℕ) (r : Segment) → i ≡ index_of f → r ≡ segment_if j.task.kind (sub_area_of l i) (j.task.length - j.processed) f →

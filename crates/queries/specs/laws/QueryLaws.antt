@@ -1,12 +1,12 @@
 -- What the queries give, by the cases that the code takes apart.
-use Rattle.std.specs.Prelude.{ℕ, ◌≤◌, ◌<◌, Bool, true, false, ◌||◌, List, ◌≡◌, refl, length, get_or}
+use Rattle.std.specs.Prelude.{ℕ, ◌≤◌, ◌<◌, Bool, true, false, ◌||◌, List, Some, None, ◌≡◌, refl, length, get_or}
+use Rattle.std.specs.declared.option.Option.{Option}
 use Rattle.std.proofs.Common.{sym, ◌∙◌, arith, eq-eqb, ne_eqb}
 use Rattle.std.proofs.Math.Path.{ap}
 use Rattle.arith.specs.Bounded.{some}
 use Rattle.devices.specs.Arrays.{device_in, state_in}
 use Rattle.devices.specs.laws.DeviceLaws.{none_held}
 use Rattle.memory.specs.declared.LogicalAddress.{LogicalAddress}
-use Rattle.memory.specs.declared.MemAddress.{MemAddress}
 use Rattle.plan.specs.Questions.{sub_area_of, size_of}
 use Rattle.plan.specs.declared.records.Plan.{Plan}
 use Rattle.rules.specs.Layout.{layout_of}
@@ -17,8 +17,7 @@ use Rattle.rules.specs.Queries.{no_request, request_on, no_memory_info, memory_i
 use Rattle.segment.specs.Mapping.{mapped}
 use Rattle.segment.specs.Segments.{segment_at}
 use Rattle.segment.specs.laws.MappingLaws.{mapped_place}
-use Rattle.segment.specs.declared.Found.{Found}
-use Rattle.segment.specs.declared.Found.TheVariants.{Outside, At}
+use Rattle.segment.specs.declared.FoundByte.{FoundByte}
 use Rattle.segment.specs.declared.Segment.{Segment}
 use Rattle.state.specs.declared.Device.{Device}
 use Rattle.state.specs.declared.DeviceState.{DeviceState}
@@ -54,31 +53,36 @@ module _ (p : Plan) (j : Job) (devices : List Device) (a : ℕ) (s : Segment) (i
   unfolding layout_of
   request_of_lem x here = ap (request_on a s) here ∙ ap (λ t. request_on a t (state_in devices t.device)) is
 
+-- the record of the byte that the mapping gave is one that a plan has room for
+pub found_few : (p : Plan) → p.sub_area_count ≤ 32 → (a : ℕ) (address : LogicalAddress) (f : Option FoundByte) → f ≡ mapped p a address →
+    (byte : FoundByte) → f ≡ Some byte → byte.sub_area < 32
+found_few p few a address f e byte here = let place = (mapped_place p a address.0 byte (sym e ∙ here)).0 in omega (arith, place.known, few)
+
 -- memory info, with what the mapping gave
-module _ (p : Plan) (a : ℕ) (address : LogicalAddress) (f : Found) (e : f ≡ mapped p a (record { 0 = address.0 })) where
-  pub memory_outside : f ≡ Outside → no_memory_info ≡ memory_info_of p a address
+module _ (p : Plan) (a : ℕ) (address : LogicalAddress) (f : Option FoundByte) (e : f ≡ mapped p a (record { 0 = address.0 })) where
+  pub memory_outside : f ≡ None → no_memory_info ≡ memory_info_of p a address
   unfolding memory_info_of
   memory_outside none = ap (memory_info_at p address) (sym none ∙ e)
 
-  module _ (i y : ℕ) (m : MemAddress) (here : f ≡ At i y m) where
-    pub memory_inside : memory_info_in address (sub_area_of p.sub_areas i) y ≡ memory_info_of p a address
+  module _ (byte : FoundByte) (here : f ≡ Some byte) where
+    pub memory_inside : memory_info_in address (sub_area_of p.sub_areas byte.sub_area) byte.offset ≡ memory_info_of p a address
     unfolding memory_info_of
     memory_inside = ap (memory_info_at p address) (sym here ∙ e)
 
     -- the offset is one of the sub-area, and no larger than the address
-    pub memory_place : (i < p.sub_area_count) × ((y ≤ address.0) × (y < size_of (sub_area_of p.sub_areas i)))
+    pub memory_place : (byte.sub_area < p.sub_area_count) × ((byte.offset ≤ address.0) × (byte.offset < size_of (sub_area_of p.sub_areas byte.sub_area)))
     memory_place =
-        let place = (mapped_place p a address.0 i y m (sym e ∙ here)).0 in
+        let place = (mapped_place p a address.0 byte (sym e ∙ here)).0 in
         (place.known, (omega (arith, place.is_at), place.inside))
 
 -- wear info, with what the mapping gave
-module _ (p : Plan) (sums : ℕ → ℕ) (a : ℕ) (address : LogicalAddress) (f : Found) (e : f ≡ mapped p a (record { 0 = address.0 })) where
-  pub wear_outside : f ≡ Outside → no_wear_info ≡ wear_info_of p sums a address
+module _ (p : Plan) (sums : ℕ → ℕ) (a : ℕ) (address : LogicalAddress) (f : Option FoundByte) (e : f ≡ mapped p a (record { 0 = address.0 })) where
+  pub wear_outside : f ≡ None → no_wear_info ≡ wear_info_of p sums a address
   unfolding wear_info_of
   wear_outside none = ap (wear_info_at p sums) (sym none ∙ e)
 
-  pub wear_inside : (i y : ℕ) (m : MemAddress) → f ≡ At i y m → (charge : ℕ) →
-      charge ≡ charge_of (sums i) (get_or p.endurance i 0) (sub_area_of p.sub_areas i).sector_count →
-      record { sum = sums i; charge = charge } ≡ wear_info_of p sums a address
+  pub wear_inside : (byte : FoundByte) → f ≡ Some byte → (charge : ℕ) →
+      charge ≡ charge_of (sums byte.sub_area) (get_or p.endurance byte.sub_area 0) (sub_area_of p.sub_areas byte.sub_area).sector_count →
+      record { sum = sums byte.sub_area; charge = charge } ≡ wear_info_of p sums a address
   unfolding wear_info_of
-  wear_inside i y m here charge is = ap (λ c. record { sum = sums i; charge = c }) is ∙ ap (wear_info_at p sums) (sym here ∙ e)
+  wear_inside byte here charge is = ap (λ c. record { sum = sums byte.sub_area; charge = c }) is ∙ ap (wear_info_at p sums) (sym here ∙ e)

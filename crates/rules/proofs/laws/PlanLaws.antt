@@ -1,5 +1,5 @@
 -- What an accepted plan and an admitted job give the machine.
-use Rattle.std.specs.Prelude.{ℕ, ◌+◌, ◌<◌, ◌≡◌, refl, Bool, true, not}
+use Rattle.std.specs.Prelude.{ℕ, ◌+◌, ◌<◌, ◌≡◌, refl, Bool, true, not, Some}
 use Rattle.std.specs.Int.{◌∣◌}
 use Rattle.std.proofs.Math.Nat.{one-dvd}
 use Rattle.std.proofs.Common.{eqb-true}
@@ -7,7 +7,6 @@ use Rattle.arith.specs.Plain.{plain, and_plain}
 use Rattle.memory.specs.declared.JobType.{JobType}
 use Rattle.memory.specs.declared.JobType.TheVariants.{NoJob, Write, Read, Compare, Erase, BlankCheck, Lock}
 use Rattle.memory.specs.declared.LogicalAddress.{LogicalAddress}
-use Rattle.memory.specs.declared.MemAddress.{MemAddress}
 use Rattle.memory.specs.declared.Task.{Task}
 use Rattle.plan.specs.Questions.{sub_area_of}
 use Rattle.plan.specs.WellFormed.{WellFormed}
@@ -18,7 +17,7 @@ use Rattle.segment.specs.laws.MappingLaws.{place_mapped}
 use Rattle.segment.specs.laws.SegmentLaws.{Admitted, segment_some, segment_device}
 use Rattle.segment.specs.Segments.{is_lock, unit_of, segment_at}
 use Rattle.segment.specs.laws.SpanLaws.{one_device}
-use Rattle.segment.specs.declared.Found.TheVariants.{At}
+use Rattle.segment.specs.declared.FoundByte.{FoundByte}
 use Rattle.rules.specs.Admission.{is_inside, is_aligned, lock_task, on_one_device, range_device, if_asked, admits}
 use Rattle.rules.proofs.laws.Laws.{Laws}
 use Rattle.rules.specs.Layout.{priority_of, layout_of, layout_at}
@@ -72,8 +71,8 @@ plan_laws p w ages apart =
 
 -- question 15: every byte of the range lies on the device of the first
 pub range_on_device : (p : Plan) → WellFormed p → (a : ℕ) (address : LogicalAddress) (n : ℕ) → a < p.area_count → is_inside p a address n ≡ true →
-    on_one_device p a address n ≡ true → (x : ℕ) → x < n → (i y : ℕ) (m : MemAddress) → mapped p a (record { 0 = address.0 + x }) ≡ At i y m →
-    (sub_area_of p.sub_areas i).device ≡ range_device p a address n
+    on_one_device p a address n ≡ true → (x : ℕ) → x < n → (byte : FoundByte) →
+    mapped p a (record { 0 = address.0 + x }) ≡ Some byte → (sub_area_of p.sub_areas byte.sub_area).device ≡ range_device p a address n
 unfolding on_one_device range_device segment_at
-range_on_device p w a address n h e o x l i y m q =
+range_on_device p w a address n h e o x l byte q =
     rw q at (one_device p w a (lock_task address n) (range_admitted p a (lock_task address n) h e refl) (eqb-true _ 1 o) x l)

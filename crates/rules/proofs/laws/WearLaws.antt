@@ -1,5 +1,6 @@
 -- document 02, 05: the sums that a manager keeps are those of the erases done, or the limit.
-use Rattle.std.specs.Prelude.{ℕ, ◌*◌, ◌≤◌, ◌<◌, ◌≡◌, length, get_or}
+use Rattle.std.specs.Prelude.{ℕ, ◌*◌, ◌≤◌, ◌<◌, Some, None, ◌≡◌, length, get_or}
+use Rattle.std.specs.declared.option.Option.{Option}
 use mathlib.Core.List.{List, [], ◌∷◌, ◌++◌}
 use Rattle.std.proofs.Math.Path.{refl, sym, ap}
 use Rattle.std.proofs.Common.{◌∙◌, subst, eq-eqb, zero-add, arith, get_or-set_same, get_or-set_other}
@@ -12,8 +13,7 @@ use Rattle.memory.specs.declared.Task.{Task}
 use Rattle.plan.specs.Questions.{area_of, sub_area_of}
 use Rattle.plan.specs.declared.records.Plan.{Plan}
 use Rattle.segment.specs.Mapping.{mapped}
-use Rattle.segment.specs.declared.Found.{Found}
-use Rattle.segment.specs.declared.Found.TheVariants.{Outside, At}
+use Rattle.segment.specs.declared.FoundByte.{FoundByte}
 use Rattle.segment.specs.declared.Segment.{Segment}
 use Rattle.segment.specs.laws.Found.{index_within, located_mapped}
 use Rattle.segment.specs.laws.SegmentLaws.{Good}
@@ -49,11 +49,11 @@ module _ (p : Plan) where
   unfolding wear_info_of
   wear_info_same few s t same a address = go (mapped p a address) refl
     where
-      go : (f : Found) → f ≡ mapped p a address → wear_info_at p s f ≡ wear_info_at p t f
-      go Outside e = refl
-      go (At i y m) e =
-          ap (λ x. record { sum = x; charge = charge_of x (get_or p.endurance i 0) (sub_area_of p.sub_areas i).sector_count })
-          (same i (index_within p.sub_areas a p.sub_area_count (area_of p.areas a).start.0 address.0 (At i y m) (e ∙ sym (located_mapped p a address.0)) few))
+      go : (f : Option FoundByte) → f ≡ mapped p a address → wear_info_at p s f ≡ wear_info_at p t f
+      go None e = refl
+      go (Some byte) e =
+          ap (λ x. record { sum = x; charge = charge_of x (get_or p.endurance byte.sub_area 0) (sub_area_of p.sub_areas byte.sub_area).sector_count })
+          (same byte.sub_area (index_within p.sub_areas a p.sub_area_count (area_of p.areas a).start.0 address.0 (Some byte) (e ∙ sym (located_mapped p a address.0)) few))
 
   -- "the number of sectors in its piece": a segment of an erase is that many whole sectors
   pub sectors_whole : {a : ℕ} {t : Task} {s : Segment} {left : ℕ} → t.kind ≡ Erase → Good p a t s left →

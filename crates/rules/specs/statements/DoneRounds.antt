@@ -1,6 +1,7 @@
 -- document 00, demand 2: "reads bring those bytes to the store and writes take them from it". The rounds in which requests of each area's latest
 -- job were done, with the lent memory before and after: a definition over the plan and a run, beside the wait history.
-use Rattle.std.specs.Prelude.{ℕ, ◌+◌, ◌≤◌, ◌<◌, List, [], ◌∷◌, ◌++◌, ◌≡◌, eqb, length, get_or}
+use Rattle.std.specs.Prelude.{ℕ, ◌+◌, ◌≤◌, ◌<◌, List, [], ◌∷◌, ◌++◌, Some, None, ◌≡◌, eqb, length, get_or}
+use Rattle.std.specs.declared.option.Option.{Option}
 use Rattle.arith.specs.Cases.{pick}
 use Rattle.arith.specs.Parts.{upd}
 use Rattle.memory.specs.declared.JobType.TheVariants.{Write, Read, Compare, Erase, BlankCheck}
@@ -10,8 +11,7 @@ use Rattle.plan.specs.declared.records.Plan.{Plan}
 use Rattle.plan.specs.declared.records.SubAreaRecord.{SubAreaRecord}
 use Rattle.segment.specs.Bytes.{mapped_byte}
 use Rattle.segment.specs.Mapping.{mapped}
-use Rattle.segment.specs.declared.Found.{Found}
-use Rattle.segment.specs.declared.Found.TheVariants.{Outside, At}
+use Rattle.segment.specs.declared.FoundByte.{FoundByte}
 use Rattle.segment.specs.declared.Segment.{Segment}
 use Rattle.rules.specs.History.{Call, submit, releases, cancels, asks, round, History}
 use Rattle.rules.specs.Memory.{Memory, written_byte}
@@ -61,9 +61,9 @@ pub record Occurs (e : DoneRound) (l : List DoneRound) : Type 0 where
   pub is : l ≡ front ++ (e ∷ back)
 
 -- the device of byte x of area a's job
-abbrev pub device_at : List SubAreaRecord → Found → ℕ
-device_at l Outside = 0
-device_at l (At i y physical) = (sub_area_of l i).device
+abbrev pub device_at : List SubAreaRecord → Option FoundByte → ℕ
+device_at l None = 0
+device_at l (Some byte) = (sub_area_of l byte.sub_area).device
 
 abbrev pub byte_device : Plan → ℕ → Task → ℕ → ℕ
 byte_device p a t x = device_at p.sub_areas (mapped p a (record { 0 = t.address.0 + x }))

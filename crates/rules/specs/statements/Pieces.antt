@@ -1,5 +1,5 @@
 -- document 00, demand 2: "Each job is cut [..] by the rules of document 01", said of the plan's own records
-use Rattle.std.specs.Prelude.{ℕ, ◌+◌, ◌-◌, ◌≤◌, min, List, [], ◌∷◌, ◌≢◌, ◌⊎◌, ◌≡◌}
+use Rattle.std.specs.Prelude.{ℕ, ◌+◌, ◌-◌, ◌≤◌, min, List, [], ◌∷◌, Some, ◌≢◌, ◌⊎◌, ◌≡◌}
 use Rattle.std.specs.Int.{◌∣◌}
 use Rattle.memory.specs.declared.JobType.TheVariants.{Write, Read, Compare, Erase, BlankCheck}
 use Rattle.memory.specs.declared.MemAddress.{MemAddress}
@@ -9,7 +9,6 @@ use Rattle.plan.specs.declared.records.Granularity.{Granularity}
 use Rattle.plan.specs.declared.records.Plan.{Plan}
 use Rattle.plan.specs.declared.records.SubAreaRecord.{SubAreaRecord}
 use Rattle.segment.specs.Mapping.{mapped}
-use Rattle.segment.specs.declared.Found.TheVariants.{At}
 use Rattle.segment.specs.declared.Segment.{Segment}
 
 -- "only the mapping turns the first into the second": byte x of area a's task has a place in a sub-area, and there a physical address
@@ -17,7 +16,7 @@ pub record HasPlace (p : Plan) (a : ℕ) (t : Task) (x : ℕ) : Type 0 where
   pub sub_area : ℕ
   pub offset : ℕ
   pub physical : MemAddress
-  pub found : mapped p a (record { 0 = t.address.0 + x }) ≡ At sub_area offset physical
+  pub found : mapped p a (record { 0 = t.address.0 + x }) ≡ Some (record { sub_area = sub_area; offset = offset; address = physical })
 
 -- the record of that sub-area
 abbrev pub record_at : {p : Plan} {a : ℕ} {t : Task} {x : ℕ} → HasPlace p a t x → SubAreaRecord

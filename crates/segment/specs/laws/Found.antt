@@ -1,6 +1,7 @@
 -- What the code makes of what the lookup found.
 use Prim.Native.Nat.{ℕ, zero, suc, ◌+◌, ◌-◌, ◌≤◌, ◌<◌, min}
-use Rattle.std.specs.Prelude.{List, ◌⊎◌, ◌≡◌, refl, ltb}
+use Rattle.std.specs.Prelude.{List, Some, None, ◌⊎◌, ◌≡◌, refl, ltb}
+use Rattle.std.specs.declared.option.Option.{Option}
 use Rattle.std.proofs.Common.{inl, inr, ap}
 use native.Mathlib.Omega.{arith}
 use Rattle.arith.specs.Cases.{by_bool, by_ltb}
@@ -12,23 +13,23 @@ use Rattle.plan.specs.declared.records.Plan.{Plan}
 use Rattle.plan.specs.declared.records.SubAreaRecord.{SubAreaRecord}
 use Rattle.segment.specs.Mapping.{find, located, mapped}
 use Rattle.segment.specs.Segments.{retries_of, segment_length, segment_in, no_segment, segment_of, segment_at}
-use Rattle.segment.specs.declared.Found.{Found}
-use Rattle.segment.specs.declared.Found.TheVariants.{Outside, At}
+use Rattle.segment.specs.declared.FoundByte.{FoundByte}
 use Rattle.segment.specs.declared.Segment.{Segment}
 
-abbrev pub index_of : Found → ℕ
-index_of Outside = 0
-index_of (At i y m) = i
+-- the record found; 0 where none is
+abbrev pub index_of : Option FoundByte → ℕ
+index_of None = 0
+index_of (Some byte) = byte.sub_area
 
 -- the record found is one that a plan has room for, the offset lies in it, and the address is that of the byte there
-abbrev pub Inside : SubAreaRecord → Found → Type 0
-Inside s Outside = Unit
-Inside s (At i y m) = (i < 32) × (y < size_of s) × (m.0 ≡ s.start + y)
+abbrev pub Inside : SubAreaRecord → Option FoundByte → Type 0
+Inside s None = Unit
+Inside s (Some byte) = (byte.sub_area < 32) × (byte.offset < size_of s) × (byte.address.0 ≡ s.start + byte.offset)
 
 -- the segment there, with r bytes of the job left
-abbrev pub segment_if : JobType → SubAreaRecord → ℕ → Found → Segment
-segment_if k s r Outside = no_segment
-segment_if k s r (At i y m) = segment_in k i s y r
+abbrev pub segment_if : JobType → SubAreaRecord → ℕ → Option FoundByte → Segment
+segment_if k s r None = no_segment
+segment_if k s r (Some byte) = segment_in k byte.sub_area s byte.offset r
 
 -- at the address of the offset
 pub segment_there : (k : JobType) (i : ℕ) (s : SubAreaRecord) (y r : ℕ) (m : MemAddress) → m.0 ≡ s.start + y →
@@ -44,9 +45,10 @@ abbrev pub segment_from : List SubAreaRecord → ℕ → ℕ → ℕ → Task �
 segment_from l n start a t x = segment_of t.kind l (t.length - x) (located l n start a (t.address.0 + x))
 
 -- what is found is one of the records looked at, at an offset in it
-unfoldable Known : List SubAreaRecord → ℕ → Found → Type 0
-Known l n Outside = Unit
-Known l n (At i y m) = (i < n) × (y < size_of (sub_area_of l i)) × (m.0 ≡ (sub_area_of l i).start + y)
+unfoldable Known : List SubAreaRecord → ℕ → Option FoundByte → Type 0
+Known l n None = Unit
+Known l n (Some byte) =
+    let s = sub_area_of l byte.sub_area in (byte.sub_area < n) × (byte.offset < size_of s) × (byte.address.0 ≡ s.start + byte.offset)
 
 module _ (l : List SubAreaRecord) (a n : ℕ) where
   find_known : (k i x : ℕ) → i + k ≡ n → Known l n (find k l i a x)
@@ -65,22 +67,22 @@ module _ (l : List SubAreaRecord) (a n : ℕ) where
   located_known start x = by_bool (ltb x start) (λ t. simp t tt) (λ t. simp t (find_known n 0 (x - start) (omega arith)))
 
   module _ (start x : ℕ) where
-    within : (f : Found) → f ≡ located l n start a x → Known l n f
+    within : (f : Option FoundByte) → f ≡ located l n start a x → Known l n f
     within f e = rw e (located_known start x)
 
-    pub index_within : (f : Found) → f ≡ located l n start a x → n ≤ 32 → index_of f < 32
+    pub index_within : (f : Option FoundByte) → f ≡ located l n start a x → n ≤ 32 → index_of f < 32
     unfolding Known
-    index_within Outside e few = omega arith
-    index_within (At i y m) e few = let k = within (At i y m) e in omega (arith, k.0)
+    index_within None e few = omega arith
+    index_within (Some byte) e few = let k = within (Some byte) e in omega (arith, k.0)
 
-    pub offset_inside : (f : Found) → f ≡ located l n start a x → n ≤ 32 → Inside (sub_area_of l (index_of f)) f
+    pub offset_inside : (f : Option FoundByte) → f ≡ located l n start a x → n ≤ 32 → Inside (sub_area_of l (index_of f)) f
     unfolding Known
-    offset_inside Outside e few = tt
-    offset_inside (At i y m) e few = let k = within (At i y m) e in (omega (arith, k.0), k.1, k.2)
+    offset_inside None e few = tt
+    offset_inside (Some byte) e few = let k = within (Some byte) e in (omega (arith, k.0), k.1, k.2)
 
-pub if_found : (k : JobType) (l : List SubAreaRecord) (r : ℕ) (f : Found) → segment_if k (sub_area_of l (index_of f)) r f ≡ segment_of k l r f
-if_found k l r Outside = refl
-if_found k l r (At i y m) = refl
+pub if_found : (k : JobType) (l : List SubAreaRecord) (r : ℕ) (f : Option FoundByte) → segment_if k (sub_area_of l (index_of f)) r f ≡ segment_of k l r f
+if_found k l r None = refl
+if_found k l r (Some byte) = refl
 
 -- of a plan
 pub located_mapped : (p : Plan) (a x : ℕ) → located p.sub_areas p.sub_area_count (area_of p.areas a).start.0 a x ≡ mapped p a (record { 0 = x })
@@ -97,10 +99,10 @@ pub sub_area_room : (p : Plan) → p.sub_area_count ≤ 32 → (a : ℕ) (t : Ta
 unfolding segment_at mapped
 sub_area_room p few a t x = room (located p.sub_areas p.sub_area_count (area_of p.areas a).start.0 a (t.address.0 + x)) refl
   where
-    room : (f : Found) → f ≡ located p.sub_areas p.sub_area_count (area_of p.areas a).start.0 a (t.address.0 + x) →
+    room : (f : Option FoundByte) → f ≡ located p.sub_areas p.sub_area_count (area_of p.areas a).start.0 a (t.address.0 + x) →
         (segment_of t.kind p.sub_areas (t.length - x) f).sub_area < 32
-    room Outside e = omega arith
-    room (At i y m) e = index_within p.sub_areas a p.sub_area_count (area_of p.areas a).start.0 (t.address.0 + x) (At i y m) e few
+    room None e = omega arith
+    room (Some byte) e = index_within p.sub_areas a p.sub_area_count (area_of p.areas a).start.0 (t.address.0 + x) (Some byte) e few
 
 -- the sector of a segment is that of its sub-area; one that lies in none has no bytes
 pub sector_kept : (p : Plan) (a : ℕ) (t : Task) (x : ℕ) →
@@ -108,7 +110,7 @@ pub sector_kept : (p : Plan) (a : ℕ) (t : Task) (x : ℕ) →
 unfolding segment_at
 sector_kept p a t x = kept (mapped p a (record { 0 = t.address.0 + x }))
   where
-    kept : (f : Found) →
+    kept : (f : Option FoundByte) →
         let s = segment_of t.kind p.sub_areas (t.length - x) f in (s.length ≡ 0) ⊎ (s.sector ≡ (sub_area_of p.sub_areas s.sub_area).erase.unit)
-    kept Outside = inl refl
-    kept (At i y m) = inr refl
+    kept None = inl refl
+    kept (Some byte) = inr refl

@@ -1,7 +1,8 @@
 -- Where the lookup finds the bytes of an area.
 use Prim.Native.Nat.{ℕ, zero, suc, ◌+◌, ◌-◌, ◌≤◌, ◌<◌}
 use Rattle.std.proofs.Math.Path.{◌≡◌}
-use Rattle.std.specs.Prelude.{refl, true, false}
+use Rattle.std.specs.Prelude.{refl, true, false, Some, None}
+use Rattle.std.specs.declared.option.Option.{Option}
 use Rattle.std.proofs.Common.{sym, ap, ◌∙◌, arith}
 use borrow.Author.Tests.{eqb-true, eq-eqb, le-ltb}
 use Rattle.arith.specs.Bounded.{sum, sum_mono}
@@ -12,8 +13,7 @@ use Rattle.plan.proofs.laws.SizeLaws.{size_more}
 use Rattle.plan.specs.WellFormed.{WellFormed}
 use Rattle.plan.specs.declared.records.Plan.{Plan}
 use Rattle.segment.specs.Mapping.{find, mapped}
-use Rattle.segment.specs.declared.Found.{Found}
-use Rattle.segment.specs.declared.Found.TheVariants.{Outside, At}
+use Rattle.segment.specs.declared.FoundByte.{FoundByte}
 
 -- Logical address x of area a is byte y of record i, which is one of area a's: behind the area's start are the sizes of its
 -- earlier records and then y.
@@ -28,9 +28,9 @@ pub record Place (p : Plan) (a x i y : ℕ) : Type 0 where
 abbrev pub address_in : Plan → ℕ → ℕ → MemAddress
 address_in p i y = record { 0 = (sub_area_of p.sub_areas i).start + y }
 
-abbrev Finds : Plan → ℕ → ℕ → Found → Type 0
-Finds p a x Outside = (area_of p.areas a).start.0 + area_size p.sub_areas p.sub_area_count a ≤ x
-Finds p a x (At i y m) = Place p a x i y × (m ≡ address_in p i y)
+abbrev Finds : Plan → ℕ → ℕ → Option FoundByte → Type 0
+Finds p a x None = (area_of p.areas a).start.0 + area_size p.sub_areas p.sub_area_count a ≤ x
+Finds p a x (Some byte) = Place p a x byte.sub_area byte.offset × (byte.address ≡ address_in p byte.sub_area byte.offset)
 
 module _ (p : Plan) (a : ℕ) where
   -- a record of the area adds its size to the area
@@ -69,9 +69,10 @@ module _ (p : Plan) (a : ℕ) where
       (finds_from p.sub_area_count 0 (x - (area_of p.areas a).start.0) x (omega arith) (unfold sum in omega arith))
 
   -- what the mapping says of an address is its place
-  pub mapped_place : (x i y : ℕ) (m : MemAddress) → mapped p a (record { 0 = x }) ≡ At i y m → Place p a x i y × (m ≡ address_in p i y)
+  pub mapped_place : (x : ℕ) (byte : FoundByte) → mapped p a (record { 0 = x }) ≡ Some byte →
+      Place p a x byte.sub_area byte.offset × (byte.address ≡ address_in p byte.sub_area byte.offset)
   unfolding mapped
-  mapped_place x i y m e =
+  mapped_place x byte e =
       by_ltb x (area_of p.areas a).start.0
       (λ t _. let f = rw t at e in let z : ◌≡◌ {A = ℕ} 0 1 = cc in absurd (omega arith))
       (λ _ l. rw e at (finds x l))
@@ -90,13 +91,13 @@ module _ (p : Plan) (a : ℕ) where
       (e, omega (arith, ap (λ n. area_size p.sub_areas n a) e))
 
   -- the place of an address is what the mapping says of it
-  pub place_mapped : {x i y : ℕ} → Place p a x i y → mapped p a (record { 0 = x }) ≡ At i y (address_in p i y)
+  pub place_mapped : {x i y : ℕ} → Place p a x i y → mapped p a (record { 0 = x }) ≡ Some (record { sub_area = i; offset = y; address = address_in p i y })
   place_mapped {x} {i} {y} h =
       same (mapped p a (record { 0 = x })) (finds x (omega arith))
     where
-      same : (f : Found) → Finds p a x f → f ≡ At i y (address_in p i y)
-      same Outside k = absurd (omega (arith, place_size h, size_rises (i + 1) p.sub_area_count (omega arith)))
-      same (At j z m) k = let e = one_place k.0 h in rw (k.1, e.0, e.1)
+      same : (f : Option FoundByte) → Finds p a x f → f ≡ Some (record { sub_area = i; offset = y; address = address_in p i y })
+      same None k = absurd (omega (arith, place_size h, size_rises (i + 1) p.sub_area_count (omega arith)))
+      same (Some byte) k = let e = one_place k.0 h in rw (k.1, e.0, e.1)
 
   -- a place is inside the area
   pub place_before_end : {x i y : ℕ} → Place p a x i y → x < (area_of p.areas a).start.0 + area_size p.sub_areas p.sub_area_count a
@@ -107,9 +108,9 @@ module _ (p : Plan) (a : ℕ) where
       x < (area_of p.areas a).start.0 + area_size p.sub_areas p.sub_area_count a → (i : ℕ) × (y : ℕ) × Place p a x i y
   place_of x h l = some (mapped p a (record { 0 = x })) (finds x h)
     where
-      some : (f : Found) → Finds p a x f → (i : ℕ) × (y : ℕ) × Place p a x i y
-      some Outside k = absurd (omega arith)
-      some (At i y m) k = (i, y, k.0)
+      some : (f : Option FoundByte) → Finds p a x f → (i : ℕ) × (y : ℕ) × Place p a x i y
+      some None k = absurd (omega arith)
+      some (Some byte) k = (byte.sub_area, byte.offset, k.0)
 
   -- k bytes on, inside the same record
   pub place_inside : {x i y : ℕ} (k : ℕ) → Place p a x i y → y + k < size_of (sub_area_of p.sub_areas i) → Place p a (x + k) i (y + k)
