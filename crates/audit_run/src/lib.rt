@@ -4,7 +4,7 @@
 // function that reads or writes says at its contract what that leaves open.
 #![tactic(auto)]
 
-ghost use Rattle.std.specs.Prelude.{ℕ, true, List, ◌≡◌, ◌<◌, ◌≤◌, IfSome, length, take};
+ghost use Rattle.std.specs.Prelude.{ℕ, true, List, ◌≡◌, ◌<◌, ◌≤◌, IfSome, length};
 ghost use Rattle.std.specs.Io.KnownBytes.{Appends};
 ghost use Rattle.streams.specs.Moved.{Wrote};
 ghost use Rattle.manager.specs.Load.{loaded_manager};
@@ -21,15 +21,7 @@ use buffers::question_text;
 use manager::Manager;
 use std::io::{Read, Write};
 use std::rt::Files;
-use streams::Contents;
-
-// Writes the first bytes of a buffer, and answers whether all could be written: the writer decides that. A writer that says what it holds has a front of the bytes, and all where the answer is yes.
-fn print<W: Write>(writer: &mut W, out: &[u8], count: usize) -> bool
-    requires { count ≤ length out.now }
-    ensures { Wrote (W.contents writer.old) (W.contents writer.new) (take count out.now) (result ≡ true) }
-{
-    streams::write_all(writer, &out[0..count]) == count
-}
+use streams::write_all;
 
 // Writes the audit of the input, as many rows at a time as have room, and answers how many bytes of the input were audited: all, or none where a write failed. What stands in the buffer each time, and what is
 // left then, is said by `fill`; the writes decide how far it comes, and a front of the audit is what they took, all of it where bytes were audited. Nothing bounds the number of rows, so the turns are counted from a number that no run uses up.
@@ -45,35 +37,27 @@ fn write_rows<W: Write>(
     ensures written { Wrote (W.contents writer.old) (W.contents writer.new) (rows_text (audit_rows manager (lines_of true input.now))) (0 < result) }
 {
     let mut place = Place::first();
-    let mut turns = u64::MAX;
-    while turns > 0 {
+    for _ in 0..u64::MAX {
         let filled = fill(manager, table, input, place, out);
         place = filled.place;
-        if !print(writer, out, filled.end) {
+        if write_all(writer, &out[..filled.end]).is_err() {
             return 0;
         }
         if is_finished(place, input.len()) {
             return input.len();
         }
-        turns -= 1;
     }
     0
 }
 
-// The audit of jobs of n bytes: each is set beside all others.
-fn write_audit<W: Write>(
-    writer: &mut W,
-    manager: Manager,
-    input: &[u8],
-    n: usize,
-    out: &mut [u8],
-) -> usize
-    requires { Loaded manager × (n ≤ length input.now) }
-    ensures used { result ≤ n }
-    ensures written { Wrote (W.contents writer.old) (W.contents writer.new) (rows_text (audit_rows manager (lines_of true (take n input.now)))) (0 < result) }
+// The audit of jobs: each is set beside all others.
+fn write_audit<W: Write>(writer: &mut W, manager: Manager, input: &[u8], out: &mut [u8]) -> usize
+    requires { Loaded manager }
+    ensures used { result ≤ length input.now }
+    ensures written { Wrote (W.contents writer.old) (W.contents writer.new) (rows_text (audit_rows manager (lines_of true input.now))) (0 < result) }
 {
-    let table = table_of(manager, &input[0..n]);
-    write_rows(writer, manager, table, &input[0..n], out)
+    let table = table_of(manager, input);
+    write_rows(writer, manager, table, input, out)
 }
 
 // A plan that cannot be read, or jobs: whether it could be written is not asked.
@@ -81,8 +65,7 @@ fn unreadable<W: Write>(writer: &mut W) -> usize
     ensures result_value { result ≡ 0 }
     ensures written { Wrote (W.contents writer.old) (W.contents writer.new) question_line ⊥ }
 {
-    let text = question_text();
-    print(writer, &text, 2);
+    let _ = write_all(writer, &question_text());
     0
 }
 
@@ -100,27 +83,24 @@ fn audit_jobs<R: Read, W: Write>(
     // one byte more than may come, so that more is seen
     let mut input = [0u8; 262144];
     match streams::read_to_end(reader, &mut input) {
-        Contents::Bytes(n) => write_audit(writer, manager, &input, n, out),
-        Contents::TooLong => unreadable(writer),
-        Contents::Failed(_) => unreadable(writer),
+        Ok(n) => write_audit(writer, manager, &input[..n], out),
+        Err(_) => unreadable(writer),
     }
 }
 
-// A plan of n bytes is loaded first: the jobs of one that is refused are not read.
-fn audit_plan<R: Read, W: Write>(reader: &mut R, writer: &mut W, plan: &[u8], n: usize) -> usize
-    requires { n ≤ length plan.now }
+// A plan is loaded first: the jobs of one that is refused are not read.
+fn audit_plan<R: Read, W: Write>(reader: &mut R, writer: &mut W, plan: &[u8]) -> usize
     ensures used { result ≤ 262144 }
-    ensures accepted { 0 < result → Loaded (loaded_manager (take n plan.now)) }
-    ensures written { 0 < result → IfSome (R.remaining reader.old) (λ jobs. Appends (W.contents writer.old) (W.contents writer.new) (rows_text (audit_rows (loaded_manager (take n plan.now)) (lines_of true jobs)))) }
+    ensures accepted { 0 < result → Loaded (loaded_manager plan.now) }
+    ensures written { 0 < result → IfSome (R.remaining reader.old) (λ jobs. Appends (W.contents writer.old) (W.contents writer.new) (rows_text (audit_rows (loaded_manager plan.now) (lines_of true jobs)))) }
 {
     let mut out = [0u8; 65536];
-    let opened = session::open(&plan[0..n], &mut out);
+    let opened = session::open(plan, &mut out);
     if 0 < opened.written {
-        print(writer, &out, opened.written);
+        let _ = write_all(writer, &out[..opened.written]);
         return 0;
     }
-    let manager = opened.manager;
-    audit_jobs(reader, writer, manager, &mut out)
+    audit_jobs(reader, writer, opened.manager, &mut out)
 }
 
 // Runs the audit, and answers how many bytes of the jobs were audited. What plan.bin holds is decided outside, and what the jobs are and what
@@ -132,8 +112,7 @@ pub fn run<F: Files, R: Read, W: Write>(files: &F, reader: &mut R, writer: &mut 
     // one byte more than a plan may have, so that a longer one is seen
     let mut plan = [0u8; 4097];
     match streams::read_file(files, "plan.bin", &mut plan) {
-        Contents::Bytes(n) => audit_plan(reader, writer, &plan, n),
-        Contents::TooLong => unreadable(writer),
-        Contents::Failed(_) => unreadable(writer),
+        Ok(n) => audit_plan(reader, writer, &plan[..n]),
+        Err(_) => unreadable(writer),
     }
 }

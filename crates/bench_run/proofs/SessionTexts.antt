@@ -1,5 +1,5 @@
 -- What a session prints, by the plan.
-use Rattle.std.specs.Prelude.{ℕ, ◌-◌, ◌≤◌, ◌<◌, List, ◌≡◌, length, take, drop, replicate}
+use Rattle.std.specs.Prelude.{ℕ, ◌≤◌, ◌<◌, List, ◌≡◌, length, take, replicate}
 use Rattle.std.specs.declared.option.Option.{Option}
 use Rattle.std.proofs.Common.{sym, ap, subst, ◌∙◌, arith, lt-ltb, le-ltb}
 use Rattle.std.proofs.lemmas.List.{take-replicate, length-replicate}
@@ -11,7 +11,6 @@ use Rattle.manager.specs.declared.Manager.{Manager}
 use Rattle.session.specs.AllLines.{bench_of}
 use Rattle.session.specs.PlanText.{plan_text, open_text, image_length_of}
 use Rattle.bench_run.specs.Texts.{text_of_lines, first_bench, bench_text}
-use Rattle.bench_run.specs.laws.TurnLaws.{front_is}
 use Rattle.session.specs.AllLines.{lines_of}
 use Rattle.std.specs.Prelude.{true}
 
@@ -41,21 +40,21 @@ session_refused p plan input o n before after room end same h some a w =
 
 -- the bench's first state
 first_is : (p plan : List ℕ) (m : Manager) (image store : List ℕ) (k room most : ℕ) → p ≡ plan → m ≡ loaded_manager p → image ≡ replicate most 255 → k ≡ image_length_of room p → k ≤ most →
-    bench_of m (take (k - 0) (drop 0 image)) store ≡ bench_of (loaded_manager plan) (replicate (image_length_of room plan) 255) store
+    bench_of m (take k image) store ≡ bench_of (loaded_manager plan) (replicate (image_length_of room plan) 255) store
 first_is p plan m image store k room most same f e g h =
-    let part : take (k - 0) (drop 0 image) ≡ replicate (image_length_of room plan) 255
-    = front_is image k ∙ ap (take k) e ∙ take-replicate k most 255 h ∙ ap (λ j. replicate j 255) (g ∙ ap (image_length_of room) same) in
+    let part : take k image ≡ replicate (image_length_of room plan) 255
+    = ap (take k) e ∙ take-replicate k most 255 h ∙ ap (λ j. replicate j 255) (g ∙ ap (image_length_of room) same) in
     let loaded : m ≡ loaded_manager plan = f ∙ ap loaded_manager same in
     (λ i. bench_of (loaded i) (part i) store)
 
 -- where nothing was
 pub session_played : (p plan input : List ℕ) (o n : Option (List ℕ)) (before after : List ℕ) (m : Manager) (image store : List ℕ) (k room end : ℕ) {W : Type 0} → p ≡ plan → room ≡ 65536 → end ≡ 0 →
     Appended before after 0 end (open_text room p) → m ≡ loaded_manager p → image ≡ replicate 65536 255 → k ≡ image_length_of room p → k ≤ 65536 → store ≡ replicate 65536 0 →
-    Wrote o n (text_of_lines (lines_of true input) (bench_of m (take (k - 0) (drop 0 image)) store)) W → Wrote o n (bench_text plan input) ⊥
+    Wrote o n (text_of_lines (lines_of true input) (bench_of m (take k image) store)) W → Wrote o n (bench_text plan input) ⊥
 session_played p plan input o n before after m image store k room end same full none a f e g h z w =
     let text : open_text room p ≡ plan_text plan = open_is p room (omega arith) ∙ ap plan_text same in
     let silent : length (plan_text plan) ≡ 0 = omega (arith, a.ends, ap length text) in
-    let first : bench_of m (take (k - 0) (drop 0 image)) store ≡ first_bench plan
+    let first : bench_of m (take k image) store ≡ first_bench plan
     = first_is p plan m image store k room 65536 same f e g h ∙ (λ i. bench_of (loaded_manager plan) (replicate (image_length_of (full i) plan) 255) (z i)) in
     front_of o n _ (bench_text plan input) w (ap (text_of_lines (lines_of true input)) first ∙ accepted plan input silent)
 

@@ -1,9 +1,12 @@
 -- A turn of the bench, and the turns one after the other.
-use Rattle.std.specs.Prelude.{ℕ, ◌+◌, ◌-◌, ◌≤◌, Bool, true, false, List, [], ◌++◌, ◌≡◌, length, take, drop}
+use Rattle.std.specs.Prelude.{ℕ, ◌+◌, ◌≤◌, Bool, true, false, List, [], ◌++◌, ◌≡◌, length, take, drop}
 use Rattle.std.specs.declared.option.Option.{Option}
-use Rattle.std.specs.Io.KnownBytes.{Appends}
-use Rattle.std.proofs.Common.{refl, sym, ap, subst, ◌∙◌, true≢false, append-nil, length-take-le, take_at, drop_at, take-add}
-use Rattle.std.proofs.KnownBytes.{Appends-nil, Appends-trans}
+use Rattle.std.specs.Prelude.{Ok, Err, IfOk}
+use Rattle.std.specs.Result.{result_unwrap_or}
+use Rattle.std.specs.declared.result.Result.{Result}
+use Rattle.std.specs.Io.KnownBytes.{Appends, Consumes, ReadConsumes}
+use Rattle.std.proofs.Common.{arith, refl, sym, ap, subst, ◌∙◌, true≢false, append-nil, length-take-le, take_at, drop_at, take-add}
+use Rattle.std.proofs.KnownBytes.{Appends-nil, Appends-trans, Consumes-nil, Consumes-kept}
 use Rattle.std.proofs.lemmas.List.{take-append-le}
 use Rattle.streams.specs.Moved.{Wrote}
 use Rattle.streams.proofs.Moving.{wrote_on, wrote_all}
@@ -12,8 +15,19 @@ use Rattle.session.specs.AllLines.{BenchState, after_lines, lines_in, begun_in, 
 use Rattle.bench_run.specs.Input.{TakenWhole}
 use Rattle.bench_run.specs.Texts.{text_of_lines}
 use Rattle.bench_run.specs.Turns.{TookTurn}
-use Rattle.bench_run.specs.laws.TurnLaws.{front_is}
 use Rattle.bench_run.proofs.TextLaws.{ended_text, more_text, more_state, more_kept}
+
+-- a read, of which a failure is taken for the end: the bytes that it brought, and how many they are
+pub read_or_end : {E : Type 0} (a b : Option (List ℕ)) (r : Result ℕ E) (xs : List ℕ) → ReadConsumes a b r xs → Consumes a b (take (result_unwrap_or r 0) xs)
+read_or_end a b (Ok n) xs p = p.0
+read_or_end a b (Err e) xs p = Consumes-kept a a b [] (Consumes-nil a) p
+
+pub read_none : {E : Type 0} (a b : Option (List ℕ)) (r : Result ℕ E) (xs : List ℕ) → ReadConsumes a b r xs → result_unwrap_or r 0 ≡ 0 → Consumes a b []
+read_none a b r xs p e = let P : ℕ → Type 0 = λ k. Consumes a b (take k xs) in subst P e (read_or_end a b r xs p)
+
+pub read_few : {E : Type 0} (r : Result ℕ E) (m : ℕ) → IfOk r (λ n. n ≤ m) → result_unwrap_or r 0 ≤ m
+read_few (Ok n) m h = h
+read_few (Err e) m h = omega arith
 
 -- the kept bytes, and then those that a read put behind them
 pub kept_and_read : (input part rest : List ℕ) (k n : ℕ) → k ≤ length input → n ≤ length part → take (k + n) (take k input ++ (part ++ rest)) ≡ take k input ++ take n part
@@ -23,18 +37,15 @@ kept_and_read input part rest k n h g =
     let behind : take n (drop k l) ≡ take n part = ap (take n) (drop_at (take k input) (part ++ rest) k len) ∙ take-append-le n part rest g in
     take-add k n l ∙ (λ i. take_at (take k input) (part ++ rest) k len i ++ behind i)
 
--- the kept bytes, as the part `&input[0..k]` that a read left
-pub kept_line : (input tail : List ℕ) (k : ℕ) → k ≤ length input → take (k - 0) (drop 0 (take k input ++ tail)) ≡ take k input
-kept_line input tail k h = front_is (take k input ++ tail) k ∙ take_at (take k input) tail k (length-take-le k input h)
-
--- what `take_input` says, of bytes x
-pub took_input : (x y : List ℕ) (b c : BenchState) (o n : Option (List ℕ)) (is_open : Bool) (kept : List ℕ) {Room : Type 0} → x ≡ y → Room →
-    Wrote o n (text_of_lines (lines_of false x) b) (Room × (is_open ≡ true)) → (Room → is_open ≡ true → TakenWhole x b c kept) → TookTurn y b c o n is_open kept
-took_input x y b c o n is_open kept same room w whole =
-    subst (λ z. TookTurn z b c o n is_open kept) same (record {
+-- what `take_input` says, of bytes x in front of a tail that it leaves as it is; k bytes are kept of those that stand there then
+pub took_input : (x y after tail : List ℕ) (b c : BenchState) (o n : Option (List ℕ)) (is_open : Bool) (k : ℕ) {Room : Type 0} → x ≡ y → k ≤ length after → Room →
+    Wrote o n (text_of_lines (lines_of false x) b) (Room × (is_open ≡ true)) → (Room → is_open ≡ true → TakenWhole x b c (take k after)) → TookTurn y b c o n is_open (take k (after ++ tail))
+took_input x y after tail b c o n is_open k same few room w whole =
+    let turn : TookTurn x b c o n is_open (take k after) = record {
       written = wrote_on o o n (text_of_lines (lines_of true x) b) [] _ _ _ (Appends-nil o) refl (ended_text x b) w (λ (v : ⊥). absurd v);
       goes_on = λ e. (wrote_all o n _ w (room, e), whole room e);
-    })
+    } in
+    subst (λ z. TookTurn z b c o n is_open (take k (after ++ tail))) same (subst (TookTurn x b c o n is_open) (sym (take-append-le k after tail few)) turn)
 
 -- what `end_input` says, of bytes x
 pub took_end : (x y : List ℕ) (b c : BenchState) (o n : Option (List ℕ)) (is_open : Bool) (kept : List ℕ) → x ≡ y → is_open ≡ false →

@@ -19,17 +19,10 @@ use manager::Manager;
 use session::fold::play_lines;
 use std::io::{Read, Write};
 use std::rt::Files;
-use streams::{Chunk, Contents};
-
-// Writes the first bytes of a buffer, and answers whether all could be written: the writer decides that. A writer that says what it holds has a front of the bytes, and all where the answer is yes.
-fn print<W: Write>(writer: &mut W, out: &[u8], count: usize) -> bool
-    requires { count ≤ length out.now }
-    ensures { Wrote (W.contents writer.old) (W.contents writer.new) (take count out.now) (result ≡ true) }
-{
-    streams::write_all(writer, &out[0..count]) == count
-}
+use streams::write_all;
 
 // The next manager, how much of the input was used, and whether the answers could be written.
+// stays: manager and used are answered where a write failed too, so an Option or a Result would hold both in each of its arms (d).
 #[derive(Clone, Copy)]
 struct Answered {
     manager: Manager,
@@ -58,16 +51,15 @@ fn answer_lines<W: Write>(
     while at < input.len() {
         let progress = play_lines(next, &input[at..], ends, image, store, out);
         next = progress.manager;
-        let used = progress.used;
-        if used < 1 {
+        if progress.used == 0 {
             return Answered {
                 manager: next,
                 used: at,
                 is_open: true,
             };
         }
-        at += used;
-        if !print(writer, out, progress.written) {
+        at += progress.used;
+        if write_all(writer, &out[..progress.written]).is_err() {
             return Answered {
                 manager: next,
                 used: at,
@@ -83,6 +75,7 @@ fn answer_lines<W: Write>(
 }
 
 // The manager, the length of the begun line in front of the input, and whether there may be more input.
+// stays: manager and kept are answered of the last turn too, so an Option or a Result would hold both in each of its arms (d).
 #[derive(Clone, Copy)]
 struct Turn {
     manager: Manager,
@@ -96,23 +89,20 @@ fn take_input<W: Write>(
     writer: &mut W,
     manager: Manager,
     input: &mut [u8],
-    filled: usize,
     image: &mut [u8],
     store: &mut [u8],
     out: &mut [u8],
 ) -> Turn
-    requires { filled ≤ length input.old }
-    ensures taken_input { TakenInput (take filled input.old) (bench_of manager image.old store.old) (bench_of result.manager image.new store.new) (take result.kept input.new) }
-    ensures taken_whole { 338 ≤ length out.old → result.is_open ≡ true → TakenWhole (take filled input.old) (bench_of manager image.old store.old) (bench_of result.manager image.new store.new) (take result.kept input.new) }
-    ensures written { Wrote (W.contents writer.old) (W.contents writer.new) (text_of_lines (lines_of false (take filled input.old)) (bench_of manager image.old store.old)) ((338 ≤ length out.old) × (result.is_open ≡ true)) }
-    ensures kept_bound { result.kept ≤ 4097 }
+    ensures taken_input { TakenInput input.old (bench_of manager image.old store.old) (bench_of result.manager image.new store.new) (take result.kept input.new) }
+    ensures taken_whole { 338 ≤ length out.old → result.is_open ≡ true → TakenWhole input.old (bench_of manager image.old store.old) (bench_of result.manager image.new store.new) (take result.kept input.new) }
+    ensures written { Wrote (W.contents writer.old) (W.contents writer.new) (text_of_lines (lines_of false input.old) (bench_of manager image.old store.old)) ((338 ≤ length out.old) × (result.is_open ≡ true)) }
+    ensures kept_bound { (result.kept ≤ 4097) × (result.kept ≤ length input.new) }
 {
-    let answered = answer_lines(writer, manager, &input[0..filled], false, image, store, out);
-    let next = answered.manager;
-    let kept = keep(input, answered.used, filled);
+    let answered = answer_lines(writer, manager, input, false, image, store, out);
+    let filled = input.len();
     Turn {
-        manager: next,
-        kept,
+        manager: answered.manager,
+        kept: keep(input, answered.used, filled),
         is_open: answered.is_open,
     }
 }
@@ -125,18 +115,11 @@ fn end_input<W: Write>(
     image: &mut [u8],
     store: &mut [u8],
     out: &mut [u8],
-) -> Turn
-    ensures store_after { 338 ≤ length out.old → lines_of false line.now ≡ [] → bench_of result.manager image.new store.new ≡ after_lines (lines_of true line.now) (bench_of manager image.old store.old) }
+) -> Manager
+    ensures store_after { 338 ≤ length out.old → lines_of false line.now ≡ [] → bench_of result image.new store.new ≡ after_lines (lines_of true line.now) (bench_of manager image.old store.old) }
     ensures written { Wrote (W.contents writer.old) (W.contents writer.new) (text_of_lines (lines_of true line.now) (bench_of manager image.old store.old)) ⊥ }
-    ensures kept_value { (result.kept ≡ 0) × (result.is_open ≡ false) }
 {
-    let answered = answer_lines(writer, manager, line, true, image, store, out);
-    let next = answered.manager;
-    Turn {
-        manager: next,
-        kept: 0,
-        is_open: false,
-    }
+    answer_lines(writer, manager, line, true, image, store, out).manager
 }
 
 // Reads once, and takes what came, or the end. The reader decides which bytes these are: some piece of what it had left, where it says what that is, and of a reader that does not say it,
@@ -155,11 +138,16 @@ fn take_turn<R: Read, W: Write>(
     ensures kept_bound { result.kept ≤ 4097 }
     ensures turn { 338 ≤ length out.old → (piece : List ℕ) × Consumes (R.remaining reader.old) (R.remaining reader.new) piece × TookTurn (take kept input.old ++ piece) (bench_of manager image.old store.old) (bench_of result.manager image.new store.new) (W.contents writer.old) (W.contents writer.new) result.is_open (take result.kept input.new) }
 {
-    match streams::read_some(reader, &mut input[kept..]) {
-        Chunk::Bytes(n) => take_input(writer, manager, input, kept + n, image, store, out),
-        Chunk::End => end_input(writer, manager, &input[0..kept], image, store, out),
-        Chunk::Failed(_) => end_input(writer, manager, &input[0..kept], image, store, out),
+    // a read that fails is the end too
+    let n = streams::read_some(reader, &mut input[kept..]).unwrap_or(0);
+    if n == 0 {
+        return Turn {
+            manager: end_input(writer, manager, &input[..kept], image, store, out),
+            kept: 0,
+            is_open: false,
+        };
     }
+    take_input(writer, manager, &mut input[..kept + n], image, store, out)
 }
 
 // All of the input, from the bench's first image and store. Nothing says that it ends, so the turns are counted, from a number that no run uses up. The reads decide what is played:
@@ -179,33 +167,28 @@ fn serve<R: Read, W: Write>(
 {
     let mut next = manager;
     let mut kept = 0;
-    let mut turns = u64::MAX;
-    while turns > 0 {
+    for _ in 0..u64::MAX {
         let turn = take_turn(reader, writer, next, kept, input, image, store, out);
         next = turn.manager;
         kept = turn.kept;
         if !turn.is_open {
             return kept;
         }
-        turns -= 1;
     }
     kept
 }
 
-// The session over a plan of n bytes. The reads decide what is played, and the writes how much of its text is written.
-fn play_session<R: Read, W: Write>(reader: &mut R, writer: &mut W, plan: &[u8], n: usize) -> usize
-    requires { n ≤ length plan.now }
+// The session over a plan. The reads decide what is played, and the writes how much of its text is written.
+fn play_session<R: Read, W: Write>(reader: &mut R, writer: &mut W, plan: &[u8]) -> usize
     ensures kept_bound { result ≤ 4097 }
-    ensures session { (came : List ℕ) × Consumes (R.remaining reader.old) (R.remaining reader.new) came × Wrote (W.contents writer.old) (W.contents writer.new) (bench_text (take n plan.now) came) ⊥ }
+    ensures session { (came : List ℕ) × Consumes (R.remaining reader.old) (R.remaining reader.new) came × Wrote (W.contents writer.old) (W.contents writer.new) (bench_text plan.now came) ⊥ }
 {
     let mut out = [0u8; 65536];
-    let opened = session::open(&plan[0..n], &mut out);
+    let opened = session::open(plan, &mut out);
     if 0 < opened.written {
-        print(writer, &out, opened.written);
+        let _ = write_all(writer, &out[..opened.written]);
         return 0;
     }
-    let manager = opened.manager;
-    let sum = opened.image_length;
     let mut image = first_image();
     let mut store = first_store();
     // a begun line, and what one read brings behind it
@@ -213,22 +196,12 @@ fn play_session<R: Read, W: Write>(reader: &mut R, writer: &mut W, plan: &[u8], 
     serve(
         reader,
         writer,
-        manager,
+        opened.manager,
         &mut input,
-        &mut image[0..sum],
+        &mut image[..opened.image_length],
         &mut store,
         &mut out,
     )
-}
-
-// "a plan above that sum, over 4,096 bytes or unreadable prints only '?'": whether it could be written is not asked.
-fn unreadable<W: Write>(writer: &mut W) -> usize
-    ensures result_value { result ≡ 0 }
-    ensures written { Wrote (W.contents writer.old) (W.contents writer.new) question_line ⊥ }
-{
-    let text = question_text();
-    print(writer, &text, 2);
-    0
 }
 
 // Runs the session, and answers how many bytes of a begun line were not taken. What plan.bin holds, what the input is and what can be written is decided outside: it is the
@@ -240,8 +213,11 @@ pub fn run<F: Files, R: Read, W: Write>(files: &F, reader: &mut R, writer: &mut 
     // one byte more than a plan may have, so that a longer one is seen
     let mut plan = [0u8; 4097];
     match streams::read_file(files, "plan.bin", &mut plan) {
-        Contents::Bytes(n) => play_session(reader, writer, &plan, n),
-        Contents::TooLong => unreadable(writer),
-        Contents::Failed(_) => unreadable(writer),
+        Ok(n) => play_session(reader, writer, &plan[..n]),
+        Err(_) => {
+            // "a plan above that sum, over 4,096 bytes or unreadable prints only '?'": whether it could be written is not asked
+            let _ = write_all(writer, &question_text());
+            0
+        }
     }
 }

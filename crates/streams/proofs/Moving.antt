@@ -2,8 +2,8 @@
 use Rattle.std.specs.Prelude.{ℕ, ◌+◌, ◌-◌, ◌≤◌, List, [], ◌++◌, ◌≡◌, length, take, drop}
 use Rattle.std.specs.declared.option.Option.{Option}
 use Rattle.std.specs.Io.KnownBytes.{Consumes, Appends}
-use Rattle.std.proofs.Common.{refl, arith, sym, ap, ◌∙◌, subst, append_assoc, append-nil, length-take, length-take-le, take_at, drop_at, take-add, take-append-drop, drop_of_length-le}
-use Rattle.std.proofs.KnownBytes.{Consumes-trans, Appends-nil, Appends-trans}
+use Rattle.std.proofs.Common.{sym, ap, ◌∙◌, subst, append_assoc, append-nil, length-take-le, take_at, drop_at, take-add, take-append-drop, drop_of_length-le}
+use Rattle.std.proofs.KnownBytes.{Consumes-trans, Appends-trans}
 use Rattle.std.proofs.lemmas.List.{take-append-le, take_rest}
 use Rattle.streams.specs.Moved.{Wrote}
 
@@ -27,16 +27,6 @@ took_more a b c xs f n p q =
 pub wrote_front : (a b : Option (List ℕ)) (text : List ℕ) (k : ℕ) {Whole : Type 0} → Appends a b (take k text) → (Whole → length text ≤ k) → Wrote a b text Whole
 wrote_front a b text k p all =
     record { front = take k text; rest = drop k text; appended = p; parts = take-append-drop k text; all = λ w. drop_of_length-le text {i = k} (all w) }
-
--- the first k of the first n bytes, as the part `&xs[0..n]`, were taken
-pub wrote_first : (a b : Option (List ℕ)) (xs : List ℕ) (n k : ℕ) {Whole : Type 0} → Appends a b (take k (take (n - 0) (drop 0 xs))) → (Whole → n ≤ k) → Wrote a b (take n xs) Whole
-wrote_first a b xs n k p all =
-    let same : n - 0 ≡ n = omega arith in
-    wrote_front a b (take n xs) k (rw same at p) (λ w. let m = all w in omega (arith, length-take n xs))
-
--- nothing is written yet
-pub wrote_none : (a : Option (List ℕ)) (text : List ℕ) {Whole : Type 0} → (Whole → text ≡ []) → Wrote a a text Whole
-wrote_none a text all = record { front = []; rest = text; appended = Appends-nil a; parts = refl; all = all }
 
 -- a text of which `first` was written, and then what stands before `left`
 pub wrote_on : (a b c : Option (List ℕ)) (text first rest part left : List ℕ) {W V : Type 0} → Appends a b first → first ++ rest ≡ text → part ++ left ≡ rest → (w : Wrote b c part W)

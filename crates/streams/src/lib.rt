@@ -4,118 +4,102 @@
 // that was read into are left open, those behind the count too, and which of the answers comes.
 #![tactic(auto)]
 
-ghost use Rattle.std.specs.Prelude.{◌≤◌, length, take};
-ghost use Rattle.std.specs.Io.KnownBytes.{Appends};
-ghost use Rattle.streams.specs.Counts.{chunk_within, contents_within};
-ghost use Rattle.streams.specs.Moved.{chunk_moved, contents_moved};
+ghost use Rattle.std.specs.Prelude.{◌≡◌, ◌≤◌, ◌<◌, IfErr, IfOk, IsOk, MatchResult, length, take};
+ghost use Rattle.std.specs.Io.KnownBytes.{Appends, ReadConsumes, WriteAppends};
+ghost use Rattle.streams.specs.Moved.{Wrote, contents_moved};
+ghost use Rattle.streams.specs.declared.Unread.TheVariants.{Failed};
 
 use std::io::{ErrorKind, Read, Write};
 use std::path::AsPath;
 use std::rt::Files;
 use std::{fs, io};
 
-// What one read found.
+// Why contents were not read to their end.
 #[derive(Clone, Copy)]
-pub enum Chunk {
-    Bytes(usize),
-    End,
-    Failed(io::Error),
-}
-
-// What reading a file to its end found.
-#[derive(Clone, Copy)]
-pub enum Contents {
-    Bytes(usize),
+pub enum Unread {
     TooLong,
     Failed(io::Error),
 }
 
-// Reads once, and again while a signal cuts the read off before it moved a byte. A count is at least 1 and within buf; of a reader that does not say what it has left, all of buf is left open.
-pub fn read_some<R: Read>(reader: &mut R, buf: &mut [u8]) -> Chunk
-    ensures within { chunk_within result (length buf.new) }
-    ensures moved { chunk_moved (R.remaining reader.old) (R.remaining reader.new) result buf.new }
-{
-    let mut turns = u64::MAX;
-    while turns > 0 {
-        match reader.read(buf) {
-            Ok(n) => {
-                if n == 0 {
-                    return Chunk::End;
-                }
-                return Chunk::Bytes(n);
-            }
-            Err(e) => {
-                if e.kind() != ErrorKind::Interrupted {
-                    return Chunk::Failed(e);
-                }
-            }
-        }
-        turns -= 1;
+impl From<io::Error> for Unread {
+    ghost from_gives = { λ e unread. unread ≡ Failed e };
+
+    fn from(e: io::Error) -> Unread {
+        Unread::Failed(e)
     }
-    Chunk::Failed(io::Error::from(ErrorKind::Interrupted))
+}
+
+// How many bytes were taken before a write failed.
+#[derive(Clone, Copy)]
+pub struct Unwritten {
+    pub taken: usize,
+}
+
+// Reads once, and again while a signal cuts the read off before it moved a byte. A count is within buf, and 0 is the end, where there is room; of a reader that does not say what it has left, all of buf is left open.
+pub fn read_some<R: Read>(reader: &mut R, buf: &mut [u8]) -> io::Result<usize>
+    ensures within { IfOk result (λ n. n ≤ length buf.new) }
+    ensures moved { ReadConsumes (R.remaining reader.old) (R.remaining reader.new) result buf.new }
+{
+    for _ in 0..u64::MAX {
+        match reader.read(buf) {
+            Err(e) if e.kind() == ErrorKind::Interrupted => {}
+            done => return done,
+        }
+    }
+    Err(io::Error::from(ErrorKind::Interrupted))
 }
 
 // Reads to the end into buf, which is one byte longer than what may come. A count is within buf; of a reader that does not say what it has left, all of buf is left open.
-pub fn read_to_end<R: Read>(reader: &mut R, buf: &mut [u8]) -> Contents
-    ensures within { contents_within result (length buf.new) }
+pub fn read_to_end<R: Read>(reader: &mut R, buf: &mut [u8]) -> Result<usize, Unread>
+    ensures within { IfOk result (λ n. n ≤ length buf.new) }
     ensures moved { contents_moved (R.remaining reader.old) (R.remaining reader.new) result buf.new }
 {
     let mut done = 0;
     while done < buf.len() {
-        match read_some(reader, &mut buf[done..]) {
-            Chunk::Bytes(n) => {
-                done += n;
-            }
-            Chunk::End => {
-                return Contents::Bytes(done);
-            }
-            Chunk::Failed(e) => {
-                return Contents::Failed(e);
-            }
+        let n = read_some(reader, &mut buf[done..])?;
+        if n == 0 {
+            return Ok(done);
         }
+        done += n;
     }
-    Contents::TooLong
+    Err(Unread::TooLong)
 }
 
 // Reads the file at path into buf, which is one byte longer than what may come. A count is within buf; all of buf is left open.
-pub fn read_file<F: Files, P: AsPath>(files: &F, path: P, buf: &mut [u8]) -> Contents
-    ensures { contents_within result (length buf.new) }
+pub fn read_file<F: Files, P: AsPath>(files: &F, path: P, buf: &mut [u8]) -> Result<usize, Unread>
+    ensures { IfOk result (λ n. n ≤ length buf.new) }
 {
-    match fs::open(files, path) {
-        Ok(file) => {
-            let mut file = file;
-            read_to_end(&mut file, buf)
-        }
-        Err(e) => Contents::Failed(e),
-    }
+    let mut file = fs::open(files, path)?;
+    read_to_end(&mut file, buf)
 }
 
-// Writes buf from its first byte on, until all is written or a write fails, and answers how many bytes of it the writes took: at most all, and these it took. How many that are is left open.
-pub fn write_all<W: Write>(writer: &mut W, buf: &[u8]) -> usize
-    ensures within { result ≤ length buf.now }
-    ensures moved { Appends (W.contents writer.old) (W.contents writer.new) (take result buf.now) }
+// Writes once, and again while a signal cuts the write off before it took a byte.
+fn write_some<W: Write>(writer: &mut W, buf: &[u8]) -> io::Result<usize>
+    ensures within { IfOk result (λ n. n ≤ length buf.now) }
+    ensures moved { WriteAppends (W.contents writer.old) (W.contents writer.new) result buf.now }
 {
-    let mut done = 0;
-    let mut turns = u64::MAX;
-    while done < buf.len() {
-        let rest = &buf[done..];
-        match writer.write(rest) {
-            Ok(n) => {
-                if n == 0 {
-                    return done;
-                }
-                done += n;
-            }
-            Err(e) => {
-                if e.kind() != ErrorKind::Interrupted {
-                    return done;
-                }
-                if turns == 0 {
-                    return done;
-                }
-                turns -= 1;
-            }
+    for _ in 0..u64::MAX {
+        match writer.write(buf) {
+            Err(e) if e.kind() == ErrorKind::Interrupted => {}
+            done => return done,
         }
     }
-    done
+    Err(io::Error::from(ErrorKind::Interrupted))
+}
+
+// Writes buf from its first byte on, until all is written or a write fails or takes nothing: then the error says how many bytes of it the writes took, and these they took.
+// Whether all is written, and how many bytes are taken where not, is left open.
+pub fn write_all<W: Write>(writer: &mut W, buf: &[u8]) -> Result<(), Unwritten>
+    ensures within { IfErr result (λ e. e.taken < length buf.now) }
+    ensures moved { MatchResult result (λ _. Appends (W.contents writer.old) (W.contents writer.new) buf.now) (λ e. Appends (W.contents writer.old) (W.contents writer.new) (take e.taken buf.now)) }
+    ensures wrote { Wrote (W.contents writer.old) (W.contents writer.new) buf.now (IsOk result) }
+{
+    let mut done = 0;
+    while done < buf.len() {
+        match write_some(writer, &buf[done..]) {
+            Err(_) | Ok(0) => return Err(Unwritten { taken: done }),
+            Ok(n) => done += n,
+        }
+    }
+    Ok(())
 }

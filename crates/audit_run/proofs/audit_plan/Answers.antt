@@ -1,4 +1,4 @@
-use Rattle.std.proofs.Common.{◌≡◌, ◌-◌, arith}
+use Rattle.std.proofs.Common.{arith}
 use Rattle.audit_run.specs.laws.OpenLaws.{open_loaded}
 use Rattle.audit_run.proofs.audit_plan.Goals as goal
 
@@ -8,5 +8,4 @@ audit_jobs-requires g c = let o = c.open-opened.ensures in rw o.manager_value (o
 pub returns-clause-accepted : goal.returns-clause-accepted
 returns-clause-accepted g c =
     let o = c.open-opened.ensures in
-    let same : c.args.n - 0 ≡ c.args.n = omega arith in
-    λ _. rw (← same) (open_loaded _ _ _ (omega arith) (omega arith) o.appended.0.ends)
+    λ _. (open_loaded _ _ _ (omega arith) (omega arith) o.appended.0.ends)

@@ -6,37 +6,37 @@ use Rattle.audits.specs.Audits.{audit_left}
 use Rattle.audits.specs.laws.FillLaws.{all_left, finished_all}
 use Rattle.audit_run.proofs.write_rows.Goals as goal
 
-pub loop-turns-init : goal.loop-turns-init
-loop-turns-init g c =
+pub loop-init : goal.loop-init
+loop-init g c =
     (rw c.first-place.ensures (record { rows = omega arith; line = refl }), refl, [], Appends-nil _, rw c.first-place.ensures (ap rows_text (all_left c.args.manager c.args.input.now)))
 
-pub returns-then-not-print-clause-written : goal.returns-then-not-print-clause-written
-returns-then-not-print-clause-written g c =
-    let (_, _, bs, before, parts) = c.loop-turns.invariant in
-    wrote_on _ _ _ _ bs _ _ _ before parts c.fill-filled.ensures.written.bytes c.print.ensures (λ (v : 0 < 0). absurd (omega arith))
+pub returns-then-is_err-clause-written : goal.returns-then-is_err-clause-written
+returns-then-is_err-clause-written g c =
+    let (_, _, bs, before, parts) = c.loop.invariant in
+    wrote_on _ _ _ _ bs _ _ _ before parts c.fill-filled.ensures.written.bytes c.write_all.ensures.wrote (λ (v : 0 < 0). absurd (omega arith))
 
-pub loop-turns-preserved : goal.loop-turns-preserved
-loop-turns-preserved g c =
-    let (_, _, bs, before, parts) = c.loop-turns.invariant in
+pub loop-preserved : goal.loop-preserved
+loop-preserved g c =
+    let (_, _, bs, before, parts) = c.loop.invariant in
     let fill = c.fill-filled in
     let part = take fill.result.end fill.new.out in
     let left = rows_text (audit_left c.args.manager c.args.input.now fill.result.place) in (
       fill.ensures.fits,
       search rules,
       bs ++ part,
-      Appends-trans _ _ _ bs part before (wrote_all _ _ part c.print.ensures (search rules)),
+      Appends-trans _ _ _ bs part before (wrote_all _ _ part c.write_all.ensures.wrote (search rules)),
       append_assoc bs part left ∙ ap (λ l. bs ++ l) fill.ensures.written.bytes ∙ parts,
     )
 
 pub returns-then-is_finished-clause-written : goal.returns-then-is_finished-clause-written
 unfolding rows_text
 returns-then-is_finished-clause-written g c =
-    let (_, _, bs, before, parts) = c.loop-turns.invariant in
+    let (_, _, bs, before, parts) = c.loop.invariant in
     let fill = c.fill-filled in
-    wrote_on _ _ _ _ bs _ _ _ before parts fill.ensures.written.bytes c.print.ensures
+    wrote_on _ _ _ _ bs _ _ _ before parts fill.ensures.written.bytes c.write_all.ensures.wrote
     (λ _. (ap rows_text (finished_all c.args.manager c.args.input.now fill.result.place fill.ensures.fits (search rules)), search rules))
 
 pub returns-clause-written : goal.returns-clause-written
 returns-clause-written g c =
-    let (_, _, bs, before, parts) = c.loop-turns.invariant in
+    let (_, _, bs, before, parts) = c.loop.invariant in
     record { front = bs; rest = _; appended = before; parts = parts; all = λ (v : 0 < 0). absurd (omega arith) }

@@ -7,9 +7,8 @@ use Rattle.bench_run.proofs.end_input.Goals as goal
 pub returns : goal.returns
 returns g c =
     let a = c.args in
-    let q = c.answer_lines-answered.ensures in
+    let q = c.answer_lines.ensures in
     record {
       store_after = λ h none. last_played a.line.now (bench_of a.manager a.image.now a.store.now) _ _ q.played_to none (q.input_value h);
       written = lines_written true _ _ _ _ _ _ _ refl q.played_to q.written (λ (v : ⊥). absurd v);
-      kept_value = (refl, refl);
     }

@@ -5,8 +5,8 @@ use Rattle.bench_run.specs.Texts.{text_of_lines}
 use Rattle.bench_run.proofs.serve.Given as goal
 
 -- the lines of what came that have an end were played and printed, and the line that is begun is kept
-abbrev pub invariant-loop-turns : goal.invariant-loop-turns
-invariant-loop-turns g l = (l.kept ≤ 4097)
+abbrev pub invariant-loop : goal.invariant-loop
+invariant-loop g l = (l.kept ≤ 4097)
     × (length l.input ≡ length l.initial.input)
     × (length l.out ≡ length l.initial.out)
     × (338 ≤ length l.initial.out → (came : List ℕ)
@@ -14,6 +14,3 @@ invariant-loop-turns g l = (l.kept ≤ 4097)
     × Appends (g.W.Write.contents l.initial.writer) (g.W.Write.contents l.writer) (text_of_lines (lines_of false came) (bench_of l.initial.next l.initial.image l.initial.store))
     × (bench_of l.next l.image l.store ≡ after_lines (lines_of false came) (bench_of l.initial.next l.initial.image l.initial.store))
     × (take l.kept l.input ≡ take 4097 (begun_line came)))
-
-abbrev pub decreases-loop-turns : goal.decreases-loop-turns
-decreases-loop-turns g l = l.turns

@@ -1,5 +1,5 @@
 -- An input that comes in pieces, each taken as the bench takes it (Input): they leave what the whole input leaves.
-use Rattle.std.specs.Prelude.{ℕ, ◌+◌, ◌<◌, Bool, ◌≡◌, drop}
+use Rattle.std.specs.Prelude.{ℕ, ◌<◌, Bool, ◌≡◌, drop}
 use Rattle.std.proofs.Math.Bool.{true, false}
 use Rattle.std.proofs.Common.{true≢false, ◌∙◌, arith, length-append, take-append-drop}
 use mathlib.Core.List.{List, [], ◌∷◌, ◌++◌, append-nil, append_assoc}

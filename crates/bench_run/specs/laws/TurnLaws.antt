@@ -1,6 +1,6 @@
 -- The turns of `answer_lines`, what `take_input` keeps, and the first image.
 use Rattle.std.specs.Prelude.{ℕ, zero, suc, ◌+◌, ◌-◌, ◌≤◌, ◌<◌, min, Bool, false, List, [], ◌∷◌, ◌++◌, ◌≡◌, refl, length, take, drop, replicate}
-use Rattle.std.proofs.Common.{sym, ap, subst, ◌∙◌, arith, length-take, length-drop, drop_of_length-le, take_all}
+use Rattle.std.proofs.Common.{sym, ap, subst, ◌∙◌, arith, length-drop, drop_of_length-le, take_all}
 use Rattle.manager.specs.declared.Manager.{Manager}
 use Rattle.session.specs.AllLines.{BenchState, state_of, bench_of, lines_of, PlayedTo}
 use Rattle.session.specs.laws.AllLinesLaws.{no_lines, played_on_lem, all_played, begun_left}
@@ -13,10 +13,6 @@ use Rattle.buffers.specs.laws.KeepLaws.{kept_front}
 -- `&input[at..]`
 pub rest_is : (input : List ℕ) (at : ℕ) → at ≤ length input → take (length input - at) (drop at input) ≡ drop at input
 rest_is input at h = take_all (length input - at) (drop at input) (rw (length-drop at input) (omega arith))
-
--- `&input[0..filled]`
-pub front_is : (input : List ℕ) (filled : ℕ) → take (filled - 0) (drop 0 input) ≡ take filled input
-front_is input filled = let e : filled - 0 ≡ filled = omega arith in ap (λ n. take n input) e
 
 -- one turn of `answer_lines`: x is the input from byte `at` on, and r what `play_lines` made of it
 module _ (ends : Bool) (input x out : List ℕ) (b : BenchState) (m : Manager) (image store : List ℕ) (at : ℕ) (r : Session) (left : x ≡ drop at input)
@@ -45,21 +41,17 @@ module _ (ends : Bool) (input : List ℕ) (at : ℕ) where
   pub none_at_all : at ≡ 0 → lines_of ends (drop at input) ≡ [] → lines_of ends input ≡ []
   none_at_all z h = ap (λ k. lines_of ends (drop k input)) (sym z) ∙ h
 
--- `take_input`: x is the filled part of the input, of which u bytes were used; r bytes are kept
-module _ (input after x : List ℕ) (filled u r : ℕ) (b c : BenchState) (part : x ≡ take filled input) (fits : filled ≤ length input) (p : PlayedTo false x b c u)
-    (e : r ≡ min 4097 (filled - u)) (kept : after ≡ take r (drop u input) ++ drop r input) where
-  pub few_used : u ≤ filled
-  few_used = omega (arith, p.few, ap length part, length-take filled input)
+-- `take_input`: u bytes of the input were used; r bytes are kept
+module _ (input after : List ℕ) (u r : ℕ) (b c : BenchState) (p : PlayedTo false input b c u)
+    (e : r ≡ min 4097 (length input - u)) (kept : after ≡ take r (drop u input) ++ drop r input) where
+  front_kept : take r after ≡ take 4097 (drop u input)
+  front_kept = kept_front after input u r (length input) p.few (omega arith) e kept ∙ ap (λ l. take 4097 (drop u l)) (take_all (length input) input (omega arith))
 
-  pub taken_input : TakenInput (take filled input) b c (take r after)
-  taken_input = (u, subst (λ y. PlayedTo false y b c u) part p, kept_front after input u r filled few_used fits e kept)
+  pub taken_input : TakenInput input b c (take r after)
+  taken_input = (u, p, front_kept)
 
-  pub taken_whole : lines_of false (drop u x) ≡ [] → TakenWhole (take filled input) b c (take r after)
-  taken_whole none =
-      let y = take filled input in
-      let q = subst (λ z. PlayedTo false z b c u) part p in
-      let left : lines_of false (drop u y) ≡ [] = ap (λ z. lines_of false (drop u z)) (sym part) ∙ none in
-      (all_played false y b c u q left, kept_front after input u r filled few_used fits e kept ∙ ap (take 4097) (sym (begun_left y b c u q left)))
+  pub taken_whole : lines_of false (drop u input) ≡ [] → TakenWhole input b c (take r after)
+  taken_whole none = (all_played false input b c u p none, front_kept ∙ ap (take 4097) (sym (begun_left input b c u p none)))
 
 -- a part of a list of one value
 alike : (n k b : ℕ) → take n (replicate k b) ≡ replicate (length (take n (replicate k b))) b

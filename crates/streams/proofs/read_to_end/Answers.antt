@@ -4,6 +4,10 @@ use Rattle.streams.proofs.read_to_end.Goals as goal
 
 pub loop-done-preserved : goal.loop-done-preserved
 loop-done-preserved g c =
-    let read = c.in-Bytes.ensures in
+    let read = c.in_ok-n.ensures in
     let l = c.loop-done in
-    (simp length-append (omega (arith, length-take-le l.done l.buf l.invariant.0, read.within.1)), search rules, read_more _ _ _ l.buf c.read_some.new.buf _ l.done c.in-Bytes.n l.invariant.0 read.within.1 l.invariant.2 read.moved)
+    record {
+      within = simp length-append (omega (arith, length-take-le l.done l.buf l.invariant.within, read.within));
+      same_length = search rules;
+      moved = read_more _ _ _ l.buf c.read_some.new.buf _ l.done c.in_ok-n.n l.invariant.within read.within l.invariant.moved read.moved.0;
+    }
