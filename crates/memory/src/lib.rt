@@ -6,7 +6,7 @@ ghost use Rattle.memory.specs.Numbers.{job_type_number, status_number, refusal_n
 
 // An address in an area's logical space (source document 000: MemAcc_AddressType).
 #[repr(C)]
-#[derive(Clone, Copy)]
+#[derive(Clone, Copy, PartialEq, Eq, Default)]
 pub struct LogicalAddress(pub u32);
 
 // A physical address: byte p of the image (000: Mem_AddressType). It is wider than a plan's numbers, so that a start and an

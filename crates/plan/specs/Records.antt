@@ -81,6 +81,9 @@ no_sub_area =
       erase_retries = 0;
     }
 
+abbrev pub no_wear : WearRecord
+no_wear = record { sub_area = 0; endurance = 0 }
+
 -- "A two-byte mark stands before each record." The bytes of a record count its mark.
 abbrev pub device_format : RecordFormat
 device_format = record { first = 68; seconds = 86 ∷ 83 ∷ 70 ∷ []; size = 12 }

@@ -1,5 +1,6 @@
 // What the questions of a load ask of one record, of two records, and of the counts; the length of all devices.
-ghost use Rattle.std.specs.Prelude.{◌≡◌, ◌+◌, ◌*◌, ◌≤◌, ◌<◌, leb};
+ghost use Rattle.std.specs.Prelude.{◌≡◌, ◌+◌, ◌*◌, ◌≤◌, ◌<◌, Bool, leb};
+ghost use Rattle.plan.specs.Records.{no_area, no_sub_area};
 ghost use Rattle.plan.specs.Questions.{within, counts_fit, length_sum, apart, device_end, device_joins, window_end, windows_apart, granularity_fits, sizes_fit, size_of, end_of, inside_device, is_placed, sub_areas_apart};
 
 use crate::records::{AreaRecord, DeviceRecord, Granularity, SubAreaRecord};
@@ -8,23 +9,15 @@ use multiples::is_multiple;
 fn is_within(most: usize, n: usize) -> bool
     ensures { result ≡ within most n }
 {
-    if n < 1 {
-        return false;
-    }
-    n <= most
+    (1..=most).contains(&n)
 }
 
 // Question 2.
+#[tactic(auto, unfolding(crate::specs::Questions::counts_fit))]
 pub fn counts_fit(devices: usize, areas: usize, sub_areas: usize) -> bool
     ensures { result ≡ counts_fit devices areas sub_areas }
 {
-    if !is_within(4, devices) {
-        return false;
-    }
-    if !is_within(8, areas) {
-        return false;
-    }
-    is_within(32, sub_areas)
+    is_within(4, devices) && is_within(8, areas) && is_within(32, sub_areas)
 }
 
 // The length of the image.
@@ -33,30 +26,30 @@ pub fn device_sum(devices: [DeviceRecord; 4], count: usize) -> u64
     ensures { (result ≡ length_sum devices count) × (result ≤ 17179869180) }
 {
     let mut sum: u64 = 0;
-    let mut i = 0;
-    while i < count {
-        let device = devices[i];
+    for device in &devices[..count] {
         sum += device.length as u64;
-        i += 1;
     }
     sum
 }
 
 // Do the n bytes from s on and the m bytes from t on share no byte?
+#[tactic(auto, unfolding(crate::specs::Questions::apart))]
 fn are_apart(s: u64, n: u64, t: u64, m: u64) -> bool
     requires { (s + n ≤ 18446744073709551615) × (t + m ≤ 18446744073709551615) }
     ensures { result ≡ apart s n t m }
 {
-    if s + n <= t {
-        return true;
-    }
-    if t + m <= s {
-        return true;
-    }
-    if n == 0 {
-        return true;
-    }
-    m == 0
+    s + n <= t || t + m <= s || n == 0 || m == 0
+}
+
+// Records of which no two may share a byte: windows of the job store, sub-areas of the devices.
+pub trait Apart: Copy {
+    // the record of all zeros
+    ghost blank: { Self };
+
+    ghost apart: { Self → Self → Bool };
+
+    fn is_apart(self, other: Self) -> bool
+        ensures { result ≡ apart self other };
 }
 
 impl DeviceRecord {
@@ -67,16 +60,11 @@ impl DeviceRecord {
     }
 
     // Does it start where it is due, and has it a length and a poll limit?
+    #[tactic(auto, unfolding(crate::specs::Questions::device_joins))]
     pub fn joins(self, due: u64) -> bool
         ensures { result ≡ device_joins due self }
     {
-        if self.start as u64 != due {
-            return false;
-        }
-        if self.length < 1 {
-            return false;
-        }
-        1 <= self.poll_limit
+        self.start as u64 == due && 1 <= self.length && 1 <= self.poll_limit
     }
 }
 
@@ -92,10 +80,15 @@ impl AreaRecord {
     {
         self.window_end() <= 65536
     }
+}
 
-    pub fn is_apart(self, other: AreaRecord) -> bool
-        ensures { result ≡ windows_apart self other }
-    {
+impl Apart for AreaRecord {
+    ghost blank = { no_area };
+
+    ghost apart = { windows_apart };
+
+    #[tactic(auto, unfolding(crate::specs::Questions::windows_apart))]
+    fn is_apart(self, other: AreaRecord) -> bool {
         are_apart(
             self.window.start as u64,
             self.window.length as u64,
@@ -106,16 +99,11 @@ impl AreaRecord {
 }
 
 impl Granularity {
+    #[tactic(auto, unfolding(crate::specs::Questions::granularity_fits))]
     fn fits(self) -> bool
         ensures { result ≡ granularity_fits self }
     {
-        if self.unit < 1 {
-            return false;
-        }
-        if self.burst < 1 {
-            return false;
-        }
-        is_multiple(self.unit as u64, self.burst as u64)
+        1 <= self.unit && 1 <= self.burst && is_multiple(self.unit as u64, self.burst as u64)
     }
 }
 
@@ -132,39 +120,26 @@ impl SubAreaRecord {
         (self.start as u64) + self.size()
     }
 
+    #[tactic(auto, unfolding(crate::specs::Questions::sizes_fit))]
     pub fn sizes_fit(self) -> bool
         ensures { result ≡ sizes_fit self }
     {
-        let erase = self.erase;
-        if !erase.fits() {
-            return false;
-        }
-        let write = self.write;
-        if !write.fits() {
-            return false;
-        }
-        let read = self.read;
-        if !read.fits() {
-            return false;
-        }
-        if self.sector_count < 1 {
-            return false;
-        }
-        if !is_multiple(write.unit as u64, erase.unit as u64) {
-            return false;
-        }
-        is_multiple(read.unit as u64, erase.unit as u64)
+        self.erase.fits()
+            && self.write.fits()
+            && self.read.fits()
+            && 1 <= self.sector_count
+            && is_multiple(self.write.unit as u64, self.erase.unit as u64)
+            && is_multiple(self.read.unit as u64, self.erase.unit as u64)
     }
 
+    #[tactic(auto, unfolding(crate::specs::Questions::inside_device))]
     fn is_inside(self, device: DeviceRecord) -> bool
         ensures { result ≡ inside_device self device }
     {
-        if self.start < device.start {
-            return false;
-        }
-        self.end() <= device.end()
+        device.start <= self.start && self.end() <= device.end()
     }
 
+    #[tactic(auto, unfolding(crate::specs::Questions::is_placed))]
     pub fn is_placed(
         self,
         devices: [DeviceRecord; 4],
@@ -174,22 +149,20 @@ impl SubAreaRecord {
         requires { device_count ≤ 4 }
         ensures { result ≡ is_placed devices device_count area_count self }
     {
-        if area_count <= self.area as usize {
-            return false;
-        }
-        let device = self.device as usize;
-        if device_count <= device {
-            return false;
-        }
-        if !is_multiple(self.erase.unit as u64, self.start as u64) {
-            return false;
-        }
-        self.is_inside(devices[device])
+        (self.area as usize) < area_count
+            && (self.device as usize) < device_count
+            && is_multiple(self.erase.unit as u64, self.start as u64)
+            && self.is_inside(devices[self.device as usize])
     }
+}
 
-    pub fn is_apart(self, other: SubAreaRecord) -> bool
-        ensures { result ≡ sub_areas_apart self other }
-    {
+impl Apart for SubAreaRecord {
+    ghost blank = { no_sub_area };
+
+    ghost apart = { sub_areas_apart };
+
+    #[tactic(auto, unfolding(crate::specs::Questions::sub_areas_apart))]
+    fn is_apart(self, other: SubAreaRecord) -> bool {
         are_apart(
             self.start as u64,
             self.size(),

@@ -1,15 +1,16 @@
 // The records of a plan, and a plan as a load keeps it.
-ghost use Rattle.std.specs.Prelude.{◌≡◌, ◌+◌, ◌*◌, ◌≤◌, ◌<◌, ◌||◌, eqb, length};
+ghost use Rattle.std.specs.Prelude.{◌≡◌, ℕ, ◌+◌, ◌*◌, ◌≤◌, ◌<◌, ◌||◌, List, eqb, length};
+ghost use Rattle.std.proofs.Common.{rules};
 ghost use Rattle.arith.specs.Tables.{table};
-ghost use Rattle.plan.specs.Records.{device_at, area_at, sub_area_at, granularity_at, wear_at, endurance_by, no_device, no_area, no_granularity, no_sub_area, empty_plan, plan_of, record_layout};
+ghost use Rattle.plan.specs.Records.{device_at, area_at, sub_area_at, granularity_at, wear_at, endurance_by, no_device, no_area, no_granularity, no_sub_area, no_wear, device_format, area_format, sub_area_format, wear_format, empty_plan, plan_of, record_layout};
 
 use crate::number::{u8_at, u16_at, u32_at};
-use crate::scan::RecordLayout;
+use crate::scan::{RecordFormat, RecordLayout};
 use memory::LogicalAddress;
 
 // Document 01: a device record. `poll_limit` is its patience.
 #[repr(C)]
-#[derive(Clone, Copy)]
+#[derive(Clone, Copy, Default)]
 pub struct DeviceRecord {
     pub start: u32,
     pub length: u32,
@@ -22,14 +23,14 @@ pub struct DeviceRecord {
 
 // An area's part of the job store.
 #[repr(C)]
-#[derive(Clone, Copy)]
+#[derive(Clone, Copy, Default)]
 pub struct Window {
     pub start: u32,
     pub length: u32,
 }
 
 #[repr(C)]
-#[derive(Clone, Copy)]
+#[derive(Clone, Copy, Default)]
 pub struct AreaRecord {
     pub priority: u16,
     pub start: LogicalAddress,
@@ -39,14 +40,14 @@ pub struct AreaRecord {
 // The unit of an operation, and the most that one request of it takes: sector and sector burst,
 // page and page burst, smallest and largest read.
 #[repr(C)]
-#[derive(Clone, Copy)]
+#[derive(Clone, Copy, Default)]
 pub struct Granularity {
     pub unit: u32,
     pub burst: u32,
 }
 
 #[repr(C)]
-#[derive(Clone, Copy)]
+#[derive(Clone, Copy, Default)]
 pub struct SubAreaRecord {
     pub start: u32,
     pub erase: Granularity,
@@ -60,7 +61,7 @@ pub struct SubAreaRecord {
 }
 
 // Document 02, 05: what a sub-area's sectors endure.
-#[derive(Clone, Copy)]
+#[derive(Clone, Copy, Default)]
 pub struct WearRecord {
     pub sub_area: u8,
     pub endurance: u32,
@@ -68,7 +69,7 @@ pub struct WearRecord {
 
 // The records of a plan with how many of each kind are in use; the others are all zeros.
 #[repr(C)]
-#[derive(Clone, Copy)]
+#[derive(Clone, Copy, Default)]
 pub struct Plan {
     pub devices: [DeviceRecord; 4],
     pub areas: [AreaRecord; 8],
@@ -80,192 +81,168 @@ pub struct Plan {
     pub endurance: [u32; 32],
 }
 
+// A record as it stands in a plan's bytes, with its mark.
+pub(crate) trait Record: Copy + Default {
+    ghost use Rattle.plan.specs.declared.scan.RecordFormat.{RecordFormat};
+
+    const FORMAT: RecordFormat;
+
+    ghost FORMAT: { RecordFormat };
+
+    // the record of all zeros
+    ghost blank: { Self };
+
+    // the record that begins at this byte
+    ghost record_at: { List ℕ → ℕ → Self };
+
+    fn read(bytes: &[u8], at: usize) -> Self
+        requires { at + FORMAT.size ≤ length bytes.now }
+        ensures { result ≡ record_at bytes.now at };
+
+    ghost default_is_blank: { (x : Self) → Self.is_default x → x ≡ blank };
+}
+
 // Does the second byte of a device's mark say that the chip can suspend?
 fn can_suspend(mark: u8) -> bool
     ensures { result ≡ (eqb mark 83 || eqb mark 70) }
 {
-    if mark == b'S' {
-        return true;
-    }
-    mark == b'F'
+    mark == b'S' || mark == b'F'
 }
 
-impl DeviceRecord {
-    fn blank() -> DeviceRecord
-        ensures { result ≡ no_device }
-    {
-        DeviceRecord {
-            start: 0,
-            length: 0,
-            poll_limit: 0,
-            suspends: false,
-            clears: false,
-        }
-    }
+impl Record for DeviceRecord {
+    const FORMAT: RecordFormat = RecordFormat {
+        first: b'D',
+        seconds: [b'V', b'S', b'F'],
+        size: 12,
+    };
 
-    fn read(bytes: &[u8], at: usize) -> DeviceRecord
-        requires { at + 12 ≤ length bytes.now }
-        ensures { result ≡ device_at bytes.now at }
-    {
-        let start = u32_at(bytes, at + 2);
-        let length = u32_at(bytes, at + 6);
-        let poll_limit = u16_at(bytes, at + 10);
+    ghost FORMAT = { device_format };
+
+    ghost blank = { no_device };
+
+    ghost record_at = { device_at };
+
+    ghost default_is_blank = { λ x e. Prim.search rules };
+
+    #[tactic(auto, unfolding(crate::specs::Records::device_at))]
+    fn read(bytes: &[u8], at: usize) -> DeviceRecord {
         let mark = bytes[at + 1];
         DeviceRecord {
-            start,
-            length,
-            poll_limit,
+            start: u32_at(bytes, at + 2),
+            length: u32_at(bytes, at + 6),
+            poll_limit: u16_at(bytes, at + 10),
             suspends: can_suspend(mark),
             clears: mark == b'F',
         }
     }
 }
 
-impl AreaRecord {
-    fn blank() -> AreaRecord
-        ensures { result ≡ no_area }
-    {
-        AreaRecord {
-            priority: 0,
-            start: LogicalAddress(0),
-            window: Window {
-                start: 0,
-                length: 0,
-            },
-        }
-    }
+impl Record for AreaRecord {
+    const FORMAT: RecordFormat = RecordFormat {
+        first: b'A',
+        seconds: [b'R'; 3],
+        size: 16,
+    };
 
-    fn read(bytes: &[u8], at: usize) -> AreaRecord
-        requires { at + 16 ≤ length bytes.now }
-        ensures { result ≡ area_at bytes.now at }
-    {
-        let priority = u16_at(bytes, at + 2);
-        let start = LogicalAddress(u32_at(bytes, at + 4));
-        let from = u32_at(bytes, at + 8);
-        let length = u32_at(bytes, at + 12);
+    ghost FORMAT = { area_format };
+
+    ghost blank = { no_area };
+
+    ghost record_at = { area_at };
+
+    ghost default_is_blank = { λ x e. Prim.search rules };
+
+    #[tactic(auto, unfolding(crate::specs::Records::area_at))]
+    fn read(bytes: &[u8], at: usize) -> AreaRecord {
         AreaRecord {
-            priority,
-            start,
+            priority: u16_at(bytes, at + 2),
+            start: LogicalAddress(u32_at(bytes, at + 4)),
             window: Window {
-                start: from,
-                length,
+                start: u32_at(bytes, at + 8),
+                length: u32_at(bytes, at + 12),
             },
         }
     }
 }
 
 impl Granularity {
-    fn blank() -> Granularity
-        ensures { result ≡ no_granularity }
-    {
-        Granularity { unit: 0, burst: 0 }
-    }
-
+    #[tactic(auto, unfolding(crate::specs::Records::granularity_at))]
     fn read(bytes: &[u8], at: usize) -> Granularity
         requires { at + 8 ≤ length bytes.now }
         ensures { result ≡ granularity_at bytes.now at }
     {
-        let unit = u32_at(bytes, at);
-        let burst = u32_at(bytes, at + 4);
-        Granularity { unit, burst }
-    }
-}
-
-impl SubAreaRecord {
-    fn blank() -> SubAreaRecord
-        ensures { result ≡ no_sub_area }
-    {
-        SubAreaRecord {
-            area: 0,
-            device: 0,
-            start: 0,
-            erase: Granularity::blank(),
-            write: Granularity::blank(),
-            read: Granularity::blank(),
-            sector_count: 0,
-            write_retries: 0,
-            erase_retries: 0,
-        }
-    }
-
-    fn read(bytes: &[u8], at: usize) -> SubAreaRecord
-        requires { at + 38 ≤ length bytes.now }
-        ensures { result ≡ sub_area_at bytes.now at }
-    {
-        let area = u8_at(bytes, at + 2);
-        let device = u8_at(bytes, at + 3);
-        let start = u32_at(bytes, at + 4);
-        let erase = Granularity::read(bytes, at + 8);
-        let write = Granularity::read(bytes, at + 16);
-        let read = Granularity::read(bytes, at + 24);
-        let sector_count = u32_at(bytes, at + 32);
-        let write_retries = u8_at(bytes, at + 36);
-        let erase_retries = u8_at(bytes, at + 37);
-        SubAreaRecord {
-            area,
-            device,
-            start,
-            erase,
-            write,
-            read,
-            sector_count,
-            write_retries,
-            erase_retries,
+        Granularity {
+            unit: u32_at(bytes, at),
+            burst: u32_at(bytes, at + 4),
         }
     }
 }
 
-impl WearRecord {
-    pub(crate) fn read(bytes: &[u8], at: usize) -> WearRecord
-        requires { at + 7 ≤ length bytes.now }
-        ensures { result ≡ wear_at bytes.now at }
-    {
-        let sub_area = u8_at(bytes, at + 2);
-        let endurance = u32_at(bytes, at + 3);
+impl Record for SubAreaRecord {
+    const FORMAT: RecordFormat = RecordFormat {
+        first: b'S',
+        seconds: [b'B'; 3],
+        size: 38,
+    };
+
+    ghost FORMAT = { sub_area_format };
+
+    ghost blank = { no_sub_area };
+
+    ghost record_at = { sub_area_at };
+
+    ghost default_is_blank = { λ x e. Prim.search rules };
+
+    #[tactic(auto, unfolding(crate::specs::Records::sub_area_at))]
+    fn read(bytes: &[u8], at: usize) -> SubAreaRecord {
+        SubAreaRecord {
+            area: u8_at(bytes, at + 2),
+            device: u8_at(bytes, at + 3),
+            start: u32_at(bytes, at + 4),
+            erase: Granularity::read(bytes, at + 8),
+            write: Granularity::read(bytes, at + 16),
+            read: Granularity::read(bytes, at + 24),
+            sector_count: u32_at(bytes, at + 32),
+            write_retries: u8_at(bytes, at + 36),
+            erase_retries: u8_at(bytes, at + 37),
+        }
+    }
+}
+
+impl Record for WearRecord {
+    const FORMAT: RecordFormat = RecordFormat {
+        first: b'W',
+        seconds: [b'R'; 3],
+        size: 7,
+    };
+
+    ghost FORMAT = { wear_format };
+
+    ghost blank = { no_wear };
+
+    ghost record_at = { wear_at };
+
+    ghost default_is_blank = { λ x e. Prim.search rules };
+
+    #[tactic(auto, unfolding(crate::specs::Records::wear_at))]
+    fn read(bytes: &[u8], at: usize) -> WearRecord {
         WearRecord {
-            sub_area,
-            endurance,
+            sub_area: u8_at(bytes, at + 2),
+            endurance: u32_at(bytes, at + 3),
         }
     }
 }
 
-fn read_devices(bytes: &[u8], count: usize) -> [DeviceRecord; 4]
-    requires { (count ≤ 4) × (count * 12 ≤ length bytes.now) }
-    ensures { result ≡ table 4 (λ i. device_at bytes.now (i * 12)) no_device count }
+// The records of one kind from `from` on; the others are all zeros.
+fn read_records<T: Record, const N: usize>(bytes: &[u8], from: usize, count: usize) -> [T; N]
+    requires { (count ≤ N) × (from + count * T.FORMAT.size ≤ length bytes.now) }
+    ensures { result ≡ table N (λ i. T.record_at bytes.now (from + i * T.FORMAT.size)) T.blank count }
 {
-    let mut devices = [DeviceRecord::blank(); 4];
-    let mut i = 0;
-    while i < count {
-        devices[i] = DeviceRecord::read(bytes, i * 12);
-        i += 1;
+    let mut records = [T::default(); N];
+    for i in 0..count {
+        records[i] = T::read(bytes, from + i * T::FORMAT.size);
     }
-    devices
-}
-
-fn read_areas(bytes: &[u8], from: usize, count: usize) -> [AreaRecord; 8]
-    requires { (count ≤ 8) × (from + count * 16 ≤ length bytes.now) }
-    ensures { result ≡ table 8 (λ i. area_at bytes.now (from + i * 16)) no_area count }
-{
-    let mut areas = [AreaRecord::blank(); 8];
-    let mut i = 0;
-    while i < count {
-        areas[i] = AreaRecord::read(bytes, from + i * 16);
-        i += 1;
-    }
-    areas
-}
-
-fn read_sub_areas(bytes: &[u8], from: usize, count: usize) -> [SubAreaRecord; 32]
-    requires { (count ≤ 32) × (from + count * 38 ≤ length bytes.now) }
-    ensures { result ≡ table 32 (λ i. sub_area_at bytes.now (from + i * 38)) no_sub_area count }
-{
-    let mut sub_areas = [SubAreaRecord::blank(); 32];
-    let mut i = 0;
-    while i < count {
-        sub_areas[i] = SubAreaRecord::read(bytes, from + i * 38);
-        i += 1;
-    }
-    sub_areas
+    records
 }
 
 // The endurance of each sub-area, by the wear records from `from` on. One that names no sub-area that a plan has room for is passed over:
@@ -275,30 +252,29 @@ fn read_endurance(bytes: &[u8], from: usize, count: usize) -> [u32; 32]
     ensures { result ≡ table 32 (endurance_by (λ i. wear_at bytes.now (from + i * 7)) count) 0 32 }
 {
     let mut endurance = [0u32; 32];
-    let mut i = 0;
-    while i < count {
+    for i in 0..count {
         let wear = WearRecord::read(bytes, from + i * 7);
         let sub_area = wear.sub_area as usize;
-        if sub_area < 32 {
+        if sub_area < endurance.len() {
             endurance[sub_area] = wear.endurance;
         }
-        i += 1;
     }
     endurance
 }
 
 impl Plan {
+    #[tactic(auto, unfolding(crate::specs::Records::empty_plan))]
     pub fn empty() -> Plan
         ensures { result ≡ empty_plan }
     {
         Plan {
-            devices: [DeviceRecord::blank(); 4],
-            areas: [AreaRecord::blank(); 8],
-            sub_areas: [SubAreaRecord::blank(); 32],
+            devices: [DeviceRecord::default(); 4],
+            areas: [AreaRecord::default(); 8],
+            sub_areas: [SubAreaRecord::default(); 32],
             device_count: 0,
             area_count: 0,
             sub_area_count: 0,
-            endurance: [0u32; 32],
+            endurance: [0; 32],
         }
     }
 
@@ -308,18 +284,14 @@ impl Plan {
         requires device_count_bound { (layout.device_count ≤ 4) × (layout.area_count ≤ 8) × (layout.sub_area_count ≤ 32) }
         ensures { result ≡ plan_of bytes.now }
     {
-        let devices = read_devices(bytes, layout.device_count);
-        let areas = read_areas(bytes, layout.areas_start, layout.area_count);
-        let sub_areas = read_sub_areas(bytes, layout.sub_areas_start, layout.sub_area_count);
-        let endurance = read_endurance(bytes, layout.wear_start, layout.wear_count);
         Plan {
-            devices,
-            areas,
-            sub_areas,
+            devices: read_records(bytes, 0, layout.device_count),
+            areas: read_records(bytes, layout.areas_start, layout.area_count),
+            sub_areas: read_records(bytes, layout.sub_areas_start, layout.sub_area_count),
             device_count: layout.device_count,
             area_count: layout.area_count,
             sub_area_count: layout.sub_area_count,
-            endurance,
+            endurance: read_endurance(bytes, layout.wear_start, layout.wear_count),
         }
     }
 }

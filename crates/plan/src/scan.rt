@@ -3,6 +3,8 @@ ghost use Rattle.std.specs.Prelude.{◌≡◌, ◌+◌, ◌*◌, ◌≤◌, eqb,
 ghost use Rattle.arith.specs.Bounded.{some};
 ghost use Rattle.plan.specs.Records.{is_record, records_from, record_layout};
 
+use crate::records::{AreaRecord, DeviceRecord, Record, SubAreaRecord, WearRecord};
+
 // The two bytes of a record's mark, and how many bytes it has with its mark.
 #[derive(Clone, Copy)]
 pub struct RecordFormat {
@@ -12,31 +14,15 @@ pub struct RecordFormat {
     pub size: usize,
 }
 
-fn is_among(second: u8, seconds: [u8; 3]) -> bool
-    ensures { result ≡ some (λ i. eqb second (get_or seconds i 0)) 3 }
-{
-    if second == seconds[0] {
-        return true;
-    }
-    if second == seconds[1] {
-        return true;
-    }
-    second == seconds[2]
-}
-
 // Does a whole record of this format stand at `at`?
+#[tactic(auto, using(crate::proofs::laws::RecordLaws::among_seconds), unfolding(crate::specs::Records::is_record))]
 fn is_record(bytes: &[u8], at: usize, format: RecordFormat) -> bool
     requires { (at ≤ length bytes.now) × (2 ≤ format.size) }
     ensures { result ≡ is_record format bytes.now at }
 {
-    if bytes.len() - at < format.size {
-        return false;
-    }
-    if bytes[at] != format.first {
-        return false;
-    }
-    let seconds = format.seconds;
-    is_among(bytes[at + 1], seconds)
+    format.size <= bytes.len() - at
+        && bytes[at] == format.first
+        && format.seconds.contains(&bytes[at + 1])
 }
 
 // Records of one format, one behind the other: how many, and where they end.
@@ -77,42 +63,10 @@ pub fn record_layout(bytes: &[u8]) -> RecordLayout
     ensures value { result ≡ record_layout bytes.now }
     ensures end_in_bounds { result.end ≤ length bytes.now }
 {
-    let devices = run_from(
-        bytes,
-        0,
-        RecordFormat {
-            first: b'D',
-            seconds: [b'V', b'S', b'F'],
-            size: 12,
-        },
-    );
-    let areas = run_from(
-        bytes,
-        devices.end,
-        RecordFormat {
-            first: b'A',
-            seconds: [b'R'; 3],
-            size: 16,
-        },
-    );
-    let sub_areas = run_from(
-        bytes,
-        areas.end,
-        RecordFormat {
-            first: b'S',
-            seconds: [b'B'; 3],
-            size: 38,
-        },
-    );
-    let wear = run_from(
-        bytes,
-        sub_areas.end,
-        RecordFormat {
-            first: b'W',
-            seconds: [b'R'; 3],
-            size: 7,
-        },
-    );
+    let devices = run_from(bytes, 0, DeviceRecord::FORMAT);
+    let areas = run_from(bytes, devices.end, AreaRecord::FORMAT);
+    let sub_areas = run_from(bytes, areas.end, SubAreaRecord::FORMAT);
+    let wear = run_from(bytes, sub_areas.end, WearRecord::FORMAT);
     RecordLayout {
         device_count: devices.count,
         area_count: areas.count,

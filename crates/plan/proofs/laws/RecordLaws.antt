@@ -3,11 +3,14 @@ use Prim.Native.Nat.{ℕ, zero, suc, ◌+◌, ◌-◌, ◌*◌, ◌≤◌, ◌<�
 use Rattle.std.specs.Prelude.{◌≡◌, true, false, List, eqb, get_or}
 use Rattle.std.proofs.Math.Path.{refl}
 use native.Mathlib.Omega.{arith}
-use Rattle.std.proofs.Common.{zero-add}
+use Rattle.std.specs.List.{list_any}
+use Rattle.std.proofs.Common.{zero-add, sym, ap, ◌∙◌}
+use Rattle.std.proofs.lemmas.List.{take_all}
+use Rattle.arith.specs.InLists.{some_in_list}
 use Rattle.std.proofs.Math.ListN.{length}
 use borrow.Author.Tests.{leb-true, le-leb, eq-eqb, ne_eqb}
-use Rattle.arith.specs.Bounded.{some}
-use Rattle.arith.specs.Cases.{and_elim}
+use Rattle.arith.specs.Bounded.{some, some_same}
+use Rattle.arith.specs.Cases.{and_elim, by_eqb}
 use Rattle.plan.specs.Records.{
   device_format,
   area_format,
@@ -39,10 +42,15 @@ use Rattle.arith.specs.Tables.{table}
 use Rattle.plan.specs.declared.scan.RecordFormat.{RecordFormat}
 use Rattle.plan.specs.declared.scan.RecordLayout.{RecordLayout}
 
--- a second byte that is none of the first two: the third decides
-pub among_last : (x : ℕ) (l : List ℕ) → (x ≡ get_or l 0 0 → ⊥) → (x ≡ get_or l 1 0 → ⊥) → eqb x (get_or l 2 0) ≡ some (λ i. eqb x (get_or l i 0)) 3
-unfolding some
-among_last x l h k = rw (ne_eqb _ _ h, ne_eqb _ _ k)
+eqb_swap : (a b : ℕ) → eqb a b ≡ eqb b a
+eqb_swap a b = by_eqb a b (λ q e. q ∙ sym (eq-eqb b a (sym e))) (λ q e. q ∙ sym (ne_eqb b a (λ r. e (sym r))))
+
+-- one of three bytes
+pub among_seconds : (x : ℕ) (l : List ℕ) → length l ≡ 3 → list_any (λ y. eqb y x) l ≡ some (λ i. eqb x (get_or l i 0)) 3
+among_seconds x l h =
+    ap (list_any (λ y. eqb y x)) (sym (take_all 3 l (omega arith)))
+    ∙ some_in_list 0 l (λ y. eqb y x) 3 (omega arith)
+    ∙ some_same _ _ 3 (λ i k. eqb_swap (get_or l i 0) x)
 
 module _ (f : RecordFormat) (l : List ℕ) where
   pub record_fits : (at : ℕ) → is_record f l at ≡ true → at + f.size ≤ length l
@@ -100,7 +108,7 @@ module _ (l : List ℕ) (k : RecordLayout) (e : k ≡ record_layout l) where
   -- the plan by the layout
   pub plan_by_layout :
       record {
-        devices = table 4 (λ i. device_at l (i * 12)) no_device k.device_count;
+        devices = table 4 (λ i. device_at l (0 + i * 12)) no_device k.device_count;
         areas = table 8 (λ i. area_at l (k.areas_start + i * 16)) no_area k.area_count;
         sub_areas = table 32 (λ i. sub_area_at l (k.sub_areas_start + i * 38)) no_sub_area k.sub_area_count;
         device_count = k.device_count;
@@ -110,4 +118,4 @@ module _ (l : List ℕ) (k : RecordLayout) (e : k ≡ record_layout l) where
       }
       ≡ plan_of l
   unfolding record_layout plan_of
-  plan_by_layout = rw e
+  plan_by_layout = rw e (simp zero-add)

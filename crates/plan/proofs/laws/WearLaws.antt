@@ -1,13 +1,13 @@
 -- document 02, 05: what question 20 asks of the wear records as plain facts, and the endurance that a plan keeps by them.
 use Prim.Native.Nat.{ℕ, zero, suc, ◌+◌, ◌≤◌, ◌<◌}
-use Rattle.std.specs.Prelude.{Bool, true, false, not, ◌↔◌, ◌≢◌, List, ◌≡◌, ltb, eqb, set}
+use Rattle.std.specs.Prelude.{Bool, true, false, not, ◌↔◌, ◌≢◌, List, ◌≡◌, eqb, set}
 use Rattle.std.proofs.lemmas.Bool.{false≢true}
 use Rattle.std.proofs.Math.Path.{refl, sym}
 use Rattle.std.proofs.Common.{◌∙◌, arith}
 use Rattle.std.proofs.Math.Numerals.{add-one}
-use borrow.Author.Tests.{eq-eqb, ne_eqb, eqb-true, lt-ltb, le-ltb, le-leb, lt-leb}
+use borrow.Author.Tests.{eq-eqb, ne_eqb, eqb-true}
 use Rattle.arith.specs.Bounded.{every, every_elim, every_intro, some_elim, some_intro, below_suc, at_most}
-use Rattle.arith.specs.Cases.{by_bool, by_ltb}
+use Rattle.arith.specs.Cases.{by_ltb}
 use Rattle.arith.specs.Plain.{plain}
 use Rattle.arith.specs.Tables.{table, table_same, table_set}
 use Rattle.plan.specs.Questions.{is_named, wear_record_fits}
@@ -87,19 +87,3 @@ module _ (w : ℕ → WearRecord) where
     unfolding endurance_by
     endurance_past h f =
         f ∙ was ∙ rw add-one (table_same 32 _ _ 0 32 (λ i l. sym (rw (ne_eqb (w n).sub_area i (λ q. omega (arith, rw e at h, q, l))))))
-
-  -- the tests of record i, which is x, in their order
-  module _ (subAreas i : ℕ) (x : WearRecord) (e : x ≡ w i) where
-    pub unknown : subAreas ≤ x.sub_area → false ≡ wear_record_fits w subAreas i
-    unfolding wear_record_fits
-    unknown h = rw (le-ltb _ _ (rw e at h))
-
-    pub endures_nothing : x.endurance ≡ 0 → false ≡ wear_record_fits w subAreas i
-    unfolding wear_record_fits
-    endures_nothing h =
-        rw (lt-leb 1 (w i).endurance (omega (arith, rw e at h))) (by_bool (ltb (w i).sub_area subAreas) (λ q. rw q) (λ q. rw q))
-
-    pub known_once : (named : Bool) → x.sub_area < subAreas → (x.endurance ≡ 0 → ⊥) → named ≡ is_named w i x.sub_area →
-        not named ≡ wear_record_fits w subAreas i
-    unfolding wear_record_fits
-    known_once named h k q = rw (q, e, lt-ltb _ _ (rw e at h), le-leb 1 (w i).endurance (omega (arith, rw e at k)))

@@ -1,17 +1,8 @@
-use mathlib.Core.Path.{refl, sym, ap, ◌∙◌}
-use native.Mathlib.Omega.{arith}
-use Rattle.arith.specs.Bounded.{every, every_fails, every_more}
+use Rattle.std.proofs.Common.{◌∙◌, arith}
+use Rattle.arith.specs.InLists.{pairs_in_list}
+use Rattle.plan.specs.Records.{no_sub_area}
+use Rattle.plan.specs.Questions.{sub_areas_apart}
 use Rattle.plan_questions.proofs.all_apart.Goals as goal
 
-pub loop-j-init : goal.loop-j-init
-unfolding every
-loop-j-init c = (omega arith, refl)
-
-pub returns-then-not-sub_area_is_clear : goal.returns-then-not-sub_area_is_clear
-returns-then-not-sub_area_is_clear c = sym (every_fails _ _ _ (omega arith) (sym c.sub_area_is_clear.ensures ∙ c.if-not-sub_area_is_clear.true))
-
-pub loop-j-preserved : goal.loop-j-preserved
-loop-j-preserved c = (omega arith, every_more _ _ c.loop-j.invariant.1 (sym c.sub_area_is_clear.ensures ∙ c.if-not-sub_area_is_clear.false))
-
 pub returns : goal.returns
-returns c = sym (ap (every _) (omega arith) ∙ c.loop-j.invariant.1)
+returns c = c.pairs_apart.ensures ∙ pairs_in_list no_sub_area c.args.sub_areas sub_areas_apart c.args.count (omega arith)

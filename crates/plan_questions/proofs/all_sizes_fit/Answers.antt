@@ -1,17 +1,8 @@
-use mathlib.Core.Path.{refl, sym, ap, ◌∙◌}
-use native.Mathlib.Omega.{arith}
-use Rattle.arith.specs.Bounded.{every, every_fails, every_more}
+use Rattle.std.proofs.Common.{rules, arith}
+use Rattle.arith.specs.InLists.{all_in_slice}
+use Rattle.plan.specs.Records.{no_sub_area}
+use Rattle.plan.specs.Questions.{sizes_fit}
 use Rattle.plan_questions.proofs.all_sizes_fit.Goals as goal
 
-pub loop-i-init : goal.loop-i-init
-unfolding every
-loop-i-init c = (omega arith, refl)
-
-pub returns-then-not-sizes_fit : goal.returns-then-not-sizes_fit
-returns-then-not-sizes_fit c = sym (every_fails _ _ _ (omega arith) (sym c.sizes_fit.ensures ∙ c.if-not-sizes_fit.true))
-
-pub loop-i-preserved : goal.loop-i-preserved
-loop-i-preserved c = (omega arith, every_more _ _ c.loop-i.invariant.1 (sym c.sizes_fit.ensures ∙ c.if-not-sizes_fit.false))
-
 pub returns : goal.returns
-returns c = sym (ap (every _) (omega arith) ∙ c.loop-i.invariant.1)
+returns c = all_in_slice no_sub_area c.args.sub_areas sizes_fit c.args.count (omega arith) c.all.ensures.ran (cc) (λ x b q k. search rules)

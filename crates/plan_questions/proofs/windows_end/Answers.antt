@@ -1,17 +1,9 @@
-use mathlib.Core.Path.{refl, sym, ap, ◌∙◌}
-use native.Mathlib.Omega.{arith}
-use Rattle.arith.specs.Bounded.{every, every_fails, every_more}
+use Rattle.std.proofs.Common.{rules, leb, arith}
+use Rattle.arith.specs.InLists.{all_in_slice}
+use Rattle.plan.specs.Records.{no_area}
+use Rattle.plan.specs.Questions.{window_end}
 use Rattle.plan_questions.proofs.windows_end.Goals as goal
 
-pub loop-i-init : goal.loop-i-init
-unfolding every
-loop-i-init c = (omega arith, refl)
-
-pub returns-then-not-window_fits : goal.returns-then-not-window_fits
-returns-then-not-window_fits c = sym (every_fails _ _ _ (omega arith) (sym c.window_fits.ensures ∙ c.if-not-window_fits.true))
-
-pub loop-i-preserved : goal.loop-i-preserved
-loop-i-preserved c = (omega arith, every_more _ _ c.loop-i.invariant.1 (sym c.window_fits.ensures ∙ c.if-not-window_fits.false))
-
 pub returns : goal.returns
-returns c = sym (ap (every _) (omega arith) ∙ c.loop-i.invariant.1)
+returns c =
+    all_in_slice no_area c.args.areas (λ area. leb (window_end area) 65536) c.args.count (omega arith) c.all.ensures.ran (cc) (λ x b q k. search rules)

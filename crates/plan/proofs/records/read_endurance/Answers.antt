@@ -1,5 +1,4 @@
-use mathlib.Core.Path.{refl, ap, ◌∙◌}
-use native.Mathlib.Omega.{arith}
+use Rattle.std.proofs.Common.{refl}
 use Rattle.arith.specs.Tables.{table}
 use Rattle.plan.specs.Records.{endurance_by}
 use Rattle.plan.proofs.laws.WearLaws.{endurance_set, endurance_past}
@@ -8,18 +7,13 @@ use Rattle.plan.proofs.records.read_endurance.Goals.{then-sub_area-lt32, else-su
 
 pub loop-i-init : goal.loop-i-init
 unfolding endurance_by table
-loop-i-init c = (omega arith, refl)
+loop-i-init c = refl
 
 pub loop-i-preserved : goal.loop-i-preserved
 loop-i-preserved c =
     let r = c.read-wear.ensures in
-    let was = c.loop-i.invariant.1 in (
-      omega arith,
-      elim c.if-sub_area-lt32.branch [
-        | then-sub_area-lt32 w ↦ endurance_set _ _ _ r _ _ was w.endurance-is
-        | else-sub_area-lt32 w ↦ endurance_past _ _ _ r _ _ was w.if-sub_area-lt32.false w.endurance-is
-      ],
-    )
-
-pub returns : goal.returns
-returns c = c.loop-i.invariant.1 ∙ ap (λ f. table 32 f 0 32) (ap (endurance_by _) (omega arith))
+    let was = c.loop-i.invariant in
+    elim c.if-sub_area-lt32.branch [
+      | then-sub_area-lt32 w ↦ endurance_set _ _ _ r _ _ was w.endurance-is
+      | else-sub_area-lt32 w ↦ endurance_past _ _ _ r _ _ was w.if-sub_area-lt32.false w.endurance-is
+    ]
