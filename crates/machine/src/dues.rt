@@ -36,6 +36,7 @@ fn locate_due(
 }
 
 // For a round's questions (`questions`). One copy of the records serves all lookups of the loop; `segment_from` would make one more for each.
+#[tactic(auto, using(crate::specs::laws::Dues::due_index, crate::specs::laws::Dues::due_inside))]
 pub fn due_segments(
     sub_areas: [SubAreaRecord; 32],
     count: usize,
@@ -46,17 +47,10 @@ pub fn due_segments(
     ensures { result ≡ dues_of sub_areas count area_records areas }
 {
     let mut dues = [no_segment(); 8];
-    let mut a = 0;
-    while a < 8 {
-        let entry = areas[a];
-        let job = entry.job;
-        let task = job.task;
-        let record = area_records[a];
-        let start = record.start;
-        let found = locate_due(sub_areas, count, start, a, job);
-        let i = index_of(found);
-        dues[a] = segment_found(task, job.processed, sub_areas[i], found);
-        a += 1;
+    for a in 0..8 {
+        let job = areas[a].job;
+        let found = locate_due(sub_areas, count, area_records[a].start, a, job);
+        dues[a] = segment_found(job.task, job.processed, sub_areas[index_of(found)], found);
     }
     dues
 }
@@ -75,28 +69,21 @@ pub fn states_fit(
     ensures { result ≡ every (fits_in device_records device_count area_records area_count areas devices dues) device_count }
 {
     let sum = device_sum(device_records, device_count);
-    let mut d = 0;
-    while d < device_count {
-        let device = devices[d];
-        let state = device.state;
+    for d in 0..device_count {
+        let state = devices[d].state;
         let area = runner(state);
-        let entry = areas[area];
-        let job = entry.job;
-        let device_record = device_records[d];
-        let area_record = area_records[area];
         if !state_fits(
             sum,
-            device_record,
+            device_records[d],
             area_count,
-            area_record,
+            area_records[area],
             d,
-            job,
+            areas[area].job,
             dues[area],
             state,
         ) {
             return false;
         }
-        d += 1;
     }
     true
 }

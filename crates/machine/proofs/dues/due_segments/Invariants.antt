@@ -1,4 +1,3 @@
-use Prim.Native.Nat.{◌-◌, ◌≤◌}
 use mathlib.Core.Path.{◌≡◌}
 use Rattle.segment.specs.Segments.{no_segment}
 use Rattle.arith.specs.Tables.{table}
@@ -6,7 +5,4 @@ use Rattle.machine.specs.laws.Dues.{due_of}
 use Rattle.machine.proofs.dues.due_segments.Given as goal
 
 abbrev pub invariant-loop-a : goal.invariant-loop-a
-invariant-loop-a l = (l.a ≤ 8) × (l.dues ≡ table 8 (due_of l.sub_areas l.count l.area_records l.areas) no_segment l.a)
-
-abbrev pub decreases-loop-a : goal.decreases-loop-a
-decreases-loop-a l = 8 - l.a
+invariant-loop-a l = l.dues ≡ table 8 (due_of l.sub_areas l.count l.area_records l.areas) no_segment l.a

@@ -1,17 +1,10 @@
-use Rattle.arith.specs.Bounded.{some, some_intro, some_none}
-use mathlib.Core.Path.{refl, sym, ap, ◌∙◌}
-use native.Mathlib.Omega.{arith}
+use Rattle.std.proofs.Common.{rules, ◌∙◌, arith, sym}
+use Rattle.std.proofs.lemmas.List.{take_all}
+use Rattle.arith.specs.InLists.{any_in_slice}
+use Rattle.machine.specs.laws.Dues.{is_running}
+use Rattle.state.specs.Fresh.{free_device}
 use Rattle.machine.proofs.soundness.any_runs.Goals as goal
 
-pub loop-d-init : goal.loop-d-init
-unfolding some
-loop-d-init c = (omega arith, refl)
-
-pub returns-then-is_running : goal.returns-then-is_running
-returns-then-is_running c = sym (some_intro _ 4 c.loop-d.d (omega (arith, c.loop-d-test.true)) (sym c.is_running.ensures ∙ c.if-is_running.true))
-
-pub loop-d-preserved : goal.loop-d-preserved
-loop-d-preserved c = (omega (arith, c.loop-d-test.true), some_none _ _ c.loop-d.invariant.1 (sym c.is_running.ensures ∙ c.if-is_running.false))
-
 pub returns : goal.returns
-returns c = sym (ap (some _) (omega (arith, c.loop-d-test.false, c.loop-d.invariant.0)) ∙ c.loop-d.invariant.1)
+returns c =
+    any_in_slice free_device c.args.devices (λ device. is_running device.state) 4 (omega arith) c.any.ensures.ran (c.iter.ensures.rest ∙ sym (take_all 4 c.args.devices (omega arith))) (λ x b q k. search rules)
