@@ -1,5 +1,5 @@
 -- The audit of a plan and a list of jobs: which jobs the lines of the input are, and what is known of each.
-use Rattle.std.specs.Prelude.{ℕ, ◌-◌, min, true, false, List, [], ◌∷◌, ◌++◌, eqb}
+use Rattle.std.specs.Prelude.{ℕ, Option, Some, None, ◌-◌, min, true, false, List, [], ◌∷◌, ◌++◌, eqb}
 use Rattle.arith.specs.Cases.{pick}
 use Rattle.figures.specs.Figures.{bounds_of}
 use Rattle.job_rows.specs.Cursors.{rows_left, is_end}
@@ -9,7 +9,7 @@ use Rattle.job_rows.specs.declared.JobFacts.{JobFacts}
 use Rattle.lines.specs.Fields.{cut_from}
 use Rattle.lines.specs.Lines.{line_of}
 use Rattle.lines.specs.declared.Line.{Line}
-use Rattle.lines.specs.declared.Line.TheVariants.{Unreadable, Call, Info, Round}
+use Rattle.lines.specs.declared.Line.TheVariants.{Call, Info, Round}
 use Rattle.manager.specs.Calls.{job_number_of}
 use Rattle.manager.specs.declared.Manager.{Manager}
 use Rattle.memory.specs.declared.Task.{Task}
@@ -34,11 +34,11 @@ job_of_call (Plain.Job a t) = Job a t
 job_of_call (Plain.Release t) = NoJob
 job_of_call (Plain.Cancel a) = NoJob
 
-abbrev pub job_of_line : Line → JobLine
-job_of_line (Call x) = job_of_call (plain_of x)
-job_of_line Unreadable = NoJob
-job_of_line (Info a) = NoJob
-job_of_line (Round a b c d) = NoJob
+abbrev pub job_of_line : Option Line → JobLine
+job_of_line (Some (Call x)) = job_of_call (plain_of x)
+job_of_line None = NoJob
+job_of_line (Some (Info a)) = NoJob
+job_of_line (Some (Round a b c d)) = NoJob
 
 -- the job of a line's bytes, for a plan with so many devices
 abbrev pub job_in : ℕ → List ℕ → JobLine

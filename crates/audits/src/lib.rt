@@ -43,19 +43,12 @@ fn job_of_call(call: PlainCall) -> JobLine
     }
 }
 
-fn job_of_line(line: Line) -> JobLine
+fn job_of_line(line: Option<Line>) -> JobLine
     ensures { result ≡ job_of_line line }
 {
     match line {
-        Line::Call(call) => job_of_call(plain_of(call)),
-        Line::Unreadable => JobLine::NoJob,
-        Line::Info(_) => JobLine::NoJob,
-        Line::Round {
-            first: _,
-            second: _,
-            third: _,
-            fourth: _,
-        } => JobLine::NoJob,
+        Some(Line::Call(call)) => job_of_call(plain_of(call)),
+        _ => JobLine::NoJob,
     }
 }
 

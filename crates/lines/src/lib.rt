@@ -1,27 +1,17 @@
 // The lines of a session (document 01, "A printed session"): what a line asks for.
 #![tactic(auto)]
 
-ghost use Rattle.std.specs.Prelude.{◌≡◌, ◌≤◌, ◌<◌, length, ◌∷◌, ◌+◌};
-ghost use Rattle.lines.specs.Fields.{cut_from, fields_from, rest};
+ghost use Rattle.std.specs.Prelude.{◌≡◌, ◌≤◌, ◌<◌, length, ◌∷◌, ◌+◌, Some, MatchOption, []};
+ghost use Rattle.lines.specs.Fields.{cut_from, rest, is_last};
 ghost use Rattle.lines.specs.laws.FieldLaws.{word};
-ghost use Rattle.lines.specs.Lines.{first_number, only_number, target_in, target_of, is_letter, failed_after, answer_word, first_answer, answer_for, rest_for, round_in, answers_of, round_line, kind_of, job_in, job_line, release_line, cancel_line, info_line, line_of_type, line_of};
+ghost use Rattle.lines.specs.Lines.{first_number, only_number, target_of, is_letter, answer_word, first_answer, answer_for, rest_for, answers_of, round_line, kind_of, job_in, job_line, release_line, cancel_line, info_line, line_of_type, line_of};
 ghost use Rattle.lines.specs.Number.{number_of};
 
 use memory::{DeviceAnswer, JobType};
+use std::marker::Model;
 
-// A field read as a number.
-#[derive(Clone, Copy)]
-pub enum Number {
-    NoNumber,
-    Value(u32),
-}
-
-// A field read as a device's answer.
-#[derive(Clone, Copy)]
-pub enum AnswerWord {
-    NoAnswer,
-    Answer(DeviceAnswer),
-}
+// A line may have at most so many bytes.
+const LONGEST_LINE: usize = 4096;
 
 // "area address length" of a line.
 #[derive(Clone, Copy)]
@@ -29,12 +19,6 @@ pub struct Target {
     pub area: u32,
     pub address: u32,
     pub length: u32,
-}
-
-#[derive(Clone, Copy)]
-pub enum TargetFields {
-    NoTarget,
-    At(Target),
 }
 
 // A call on the manager that answers with its number alone.
@@ -53,7 +37,6 @@ pub enum LineCall {
 // What a line asks for.
 #[derive(Clone, Copy)]
 pub enum Line {
-    Unreadable,
     Call(LineCall),
     Info(u32),
     Round {
@@ -64,36 +47,21 @@ pub enum Line {
     },
 }
 
-fn wide(byte: u8) -> u64
-    ensures { (result ≡ byte) × (result < 256) }
-{
-    byte as u64
-}
-
 // The number that a field's bytes say. Every number of a line is read here.
-fn number_of(text: &[u8]) -> Number
+fn number_of(text: &[u8]) -> Option<u32>
     ensures { result ≡ number_of text.now }
 {
-    let mut value: u64 = 0;
-    let mut i = 0;
-    while i < text.len() {
-        let byte = text[i];
-        if byte < 48 {
-            return Number::NoNumber;
-        }
-        if 57 < byte {
-            return Number::NoNumber;
-        }
-        value = value * 10 + (wide(byte) - 48);
-        if 4294967295 < value {
-            return Number::NoNumber;
-        }
-        i += 1;
+    if text.is_empty() {
+        return None;
     }
-    if i < 1 {
-        return Number::NoNumber;
+    let mut value: u32 = 0;
+    for byte in text {
+        if !byte.is_ascii_digit() {
+            return None;
+        }
+        value = value.checked_mul(10)?.checked_add((*byte - b'0') as u32)?;
     }
-    Number::Value(value as u32)
+    Some(value)
 }
 
 // Where the part from byte `from` on ends: at the next byte `mark`, or at the end.
@@ -101,306 +69,224 @@ pub fn part_end(bytes: &[u8], mark: u8, from: usize) -> usize
     requires { from ≤ length bytes.now }
     ensures { (from ≤ result) × (result ≤ length bytes.now) × (cut_from mark bytes.now from ≡ word bytes.now from result ∷ cut_from mark bytes.now (result + 1)) }
 {
-    let mut i = from;
-    while i < bytes.len() {
+    for i in from..bytes.len() {
         if bytes[i] == mark {
             return i;
         }
-        i += 1;
     }
-    i
+    bytes.len()
 }
 
-// A field's number, and where the next field begins: past the line's end where there is none.
-#[derive(Clone, Copy)]
-struct NumberField {
-    number: Number,
-    next: usize,
-}
-
-fn next_number(line: &[u8], at: usize) -> NumberField
-    ensures { (result.number ≡ first_number (fields_from line.now at)) × (fields_from line.now result.next ≡ rest (fields_from line.now at)) }
+fn is_letter(letter: u8, text: &[u8]) -> bool
+    ensures { result ≡ is_letter letter text.now }
 {
-    if line.len() < at {
-        return NumberField {
-            number: Number::NoNumber,
-            next: at,
-        };
+    text.len() == 1 && text[0] == letter
+}
+
+#[tactic(auto, unfolding(crate::specs::Lines::answer_word))]
+fn answer_of(text: &[u8]) -> Option<DeviceAnswer>
+    ensures { result ≡ answer_word text.now }
+{
+    if is_letter(b'p', text) {
+        return Some(DeviceAnswer::Pending);
     }
-    let to = part_end(line, b' ', at);
-    let number = number_of(&line[at..to]);
-    NumberField {
-        number,
-        next: to + 1,
+    if is_letter(b'd', text) {
+        return Some(DeviceAnswer::Done);
+    }
+    Some(DeviceAnswer::Failed(number_of(text)?))
+}
+
+// The fields of a line that are still to be read: those from byte `at` on, and none past its end.
+#[derive(Drop)]
+struct Fields<'a> {
+    line: &'a [u8],
+    at: usize,
+}
+
+impl<'a> Model for Fields<'a> {
+    ghost use Rattle.std.specs.Prelude.{ℕ, List};
+    ghost use Rattle.lines.specs.Fields.{fields_from};
+
+    ghost Value = { List (List ℕ) };
+
+    ghost view = { λ f. fields_from f.line.now f.at };
+}
+
+impl<'a> Fields<'a> {
+    fn are_read(&self) -> bool
+        ensures { result ≡ is_last self.now }
+    {
+        self.line.len() < self.at
+    }
+
+    fn next(&mut self) -> Option<&'a [u8]>
+        ensures { MatchOption result ((self.old ≡ []) × (self.new ≡ [])) (λ field. self.old ≡ field.now ∷ self.new) }
+    {
+        if self.are_read() {
+            return None;
+        }
+        let from = self.at;
+        let to = part_end(self.line, b' ', from);
+        self.at = to + 1;
+        Some(&self.line[from..to])
+    }
+
+    fn number(&mut self) -> Option<u32>
+        ensures { (result ≡ first_number self.old) × (self.new ≡ rest self.old) }
+    {
+        number_of(self.next()?)
+    }
+
+    fn answer(&mut self) -> Option<DeviceAnswer>
+        ensures { (result ≡ first_answer self.old) × (self.new ≡ rest self.old) }
+    {
+        answer_of(self.next()?)
     }
 }
 
-fn only_number(line: &[u8], at: usize) -> Number
-    ensures { result ≡ only_number (fields_from line.now at) }
+#[tactic(auto, unfolding(crate::specs::Lines::only_number))]
+fn only_number(fields: &mut Fields) -> Option<u32>
+    ensures { result ≡ only_number fields.old }
 {
-    let field = next_number(line, at);
-    if field.next <= line.len() {
-        return Number::NoNumber;
+    let number = fields.number()?;
+    if !fields.are_read() {
+        return None;
     }
-    field.number
+    Some(number)
 }
 
-fn target_in(area: Number, address: Number, length: Number) -> TargetFields
-    ensures { result ≡ target_in area address length }
+#[tactic(auto, unfolding(crate::specs::Lines::target_of))]
+fn target_of(fields: &mut Fields) -> Option<Target>
+    ensures { result ≡ target_of fields.old }
 {
-    let Number::Value(area) = area else {
-        return TargetFields::NoTarget;
-    };
-    let Number::Value(address) = address else {
-        return TargetFields::NoTarget;
-    };
-    let Number::Value(length) = length else {
-        return TargetFields::NoTarget;
-    };
-    TargetFields::At(Target {
+    let area = fields.number()?;
+    let address = fields.number()?;
+    let length = fields.number()?;
+    if !fields.are_read() {
+        return None;
+    }
+    Some(Target {
         area,
         address,
         length,
     })
 }
 
-fn target_from(line: &[u8], at: usize) -> TargetFields
-    ensures { result ≡ target_of (fields_from line.now at) }
-{
-    let area = next_number(line, at);
-    let address = next_number(line, area.next);
-    let length = next_number(line, address.next);
-    if length.next <= line.len() {
-        return TargetFields::NoTarget;
-    }
-    let first = area.number;
-    let second = address.number;
-    let third = length.number;
-    target_in(first, second, third)
-}
-
-fn is_letter(letter: u8, text: &[u8]) -> bool
-    ensures { result ≡ is_letter letter text.now }
-{
-    if text.len() != 1 {
-        return false;
-    }
-    text[0] == letter
-}
-
-fn failed_after(number: Number) -> AnswerWord
-    ensures { result ≡ failed_after number }
-{
-    match number {
-        Number::NoNumber => AnswerWord::NoAnswer,
-        Number::Value(k) => AnswerWord::Answer(DeviceAnswer::Failed(k)),
-    }
-}
-
-fn answer_of(text: &[u8]) -> AnswerWord
-    ensures { result ≡ answer_word text.now }
-{
-    if is_letter(b'p', text) {
-        return AnswerWord::Answer(DeviceAnswer::Pending);
-    }
-    if is_letter(b'd', text) {
-        return AnswerWord::Answer(DeviceAnswer::Done);
-    }
-    let number = number_of(text);
-    failed_after(number)
-}
-
-// A field's answer, and where the next field begins.
-#[derive(Clone, Copy)]
-struct AnswerField {
-    answer: AnswerWord,
-    next: usize,
-}
-
-fn next_answer(line: &[u8], at: usize) -> AnswerField
-    ensures { (result.answer ≡ first_answer (fields_from line.now at)) × (fields_from line.now result.next ≡ rest (fields_from line.now at)) }
-{
-    if line.len() < at {
-        return AnswerField {
-            answer: AnswerWord::NoAnswer,
-            next: at,
-        };
-    }
-    let to = part_end(line, b' ', at);
-    let answer = answer_of(&line[at..to]);
-    AnswerField {
-        answer,
-        next: to + 1,
-    }
-}
-
 // A device beyond the plan's takes no field.
-fn answer_for(line: &[u8], at: usize, device: usize, devices: usize) -> AnswerField
-    ensures { (result.answer ≡ answer_for devices device (fields_from line.now at)) × (fields_from line.now result.next ≡ rest_for devices device (fields_from line.now at)) }
+fn answer_for(fields: &mut Fields, device: usize, devices: usize) -> Option<DeviceAnswer>
+    ensures { (result ≡ answer_for devices device fields.old) × (fields.new ≡ rest_for devices device fields.old) }
 {
     if device < devices {
-        return next_answer(line, at);
+        return fields.answer();
     }
-    AnswerField {
-        answer: AnswerWord::Answer(DeviceAnswer::Pending),
-        next: at,
-    }
+    Some(DeviceAnswer::Pending)
 }
 
-fn round_in(first: AnswerWord, second: AnswerWord, third: AnswerWord, fourth: AnswerWord) -> Line
-    ensures { result ≡ round_in first second third fourth }
+fn answers_of(fields: &mut Fields, devices: usize) -> Option<Line>
+    ensures { result ≡ answers_of devices fields.old }
 {
-    let AnswerWord::Answer(first) = first else {
-        return Line::Unreadable;
-    };
-    let AnswerWord::Answer(second) = second else {
-        return Line::Unreadable;
-    };
-    let AnswerWord::Answer(third) = third else {
-        return Line::Unreadable;
-    };
-    let AnswerWord::Answer(fourth) = fourth else {
-        return Line::Unreadable;
-    };
-    Line::Round {
+    let first = answer_for(fields, 0, devices)?;
+    let second = answer_for(fields, 1, devices)?;
+    let third = answer_for(fields, 2, devices)?;
+    let fourth = answer_for(fields, 3, devices)?;
+    if !fields.are_read() {
+        return None;
+    }
+    Some(Line::Round {
         first,
         second,
         third,
         fourth,
-    }
+    })
 }
 
-fn answers_of(line: &[u8], at: usize, devices: usize) -> Line
-    ensures { result ≡ answers_of devices (fields_from line.now at) }
-{
-    let a = answer_for(line, at, 0, devices);
-    let b = answer_for(line, a.next, 1, devices);
-    let c = answer_for(line, b.next, 2, devices);
-    let d = answer_for(line, c.next, 3, devices);
-    if d.next <= line.len() {
-        return Line::Unreadable;
-    }
-    let first = a.answer;
-    let second = b.answer;
-    let third = c.answer;
-    let fourth = d.answer;
-    round_in(first, second, third, fourth)
-}
-
-fn round_line(line: &[u8], at: usize, devices: usize) -> Line
-    ensures { result ≡ round_line devices (fields_from line.now at) }
+#[tactic(auto, unfolding(crate::specs::Lines::round_line))]
+fn round_line(fields: &mut Fields, devices: usize) -> Option<Line>
+    ensures { result ≡ round_line devices fields.old }
 {
     if 4 < devices {
-        return Line::Unreadable;
+        return None;
     }
-    answers_of(line, at, devices)
+    answers_of(fields, devices)
 }
 
+#[tactic(auto, unfolding(crate::specs::Lines::kind_of))]
 fn kind_of(number: u32) -> JobType
     ensures { result ≡ kind_of number }
 {
-    if number == 1 {
-        return JobType::Write;
+    match number {
+        1 => JobType::Write,
+        2 => JobType::Read,
+        3 => JobType::Compare,
+        4 => JobType::Erase,
+        6 => JobType::BlankCheck,
+        7 => JobType::Lock,
+        _ => JobType::NoJob,
     }
-    if number == 2 {
-        return JobType::Read;
-    }
-    if number == 3 {
-        return JobType::Compare;
-    }
-    if number == 4 {
-        return JobType::Erase;
-    }
-    if number == 6 {
-        return JobType::BlankCheck;
-    }
-    if number == 7 {
-        return JobType::Lock;
-    }
-    JobType::NoJob
 }
 
-fn job_in(kind: JobType, target: Target) -> Line
+fn job_in(kind: JobType, target: Target) -> Option<Line>
     ensures { result ≡ job_in kind target }
 {
+    let call = match kind {
+        JobType::NoJob => return None,
+        JobType::Write => LineCall::Write(target),
+        JobType::Read => LineCall::Read(target),
+        JobType::Compare => LineCall::Compare(target),
+        JobType::Erase => LineCall::Erase(target),
+        JobType::BlankCheck => LineCall::BlankCheck(target),
+        JobType::Lock => LineCall::Lock(target),
+    };
+    Some(Line::Call(call))
+}
+
+fn job_line(kind: JobType, fields: &mut Fields) -> Option<Line>
+    ensures { result ≡ job_line kind (target_of fields.old) }
+{
+    job_in(kind, target_of(fields)?)
+}
+
+fn release_line(fields: &mut Fields) -> Option<Line>
+    ensures { result ≡ release_line (target_of fields.old) }
+{
+    Some(Line::Call(LineCall::Release(target_of(fields)?)))
+}
+
+fn cancel_line(fields: &mut Fields) -> Option<Line>
+    ensures { result ≡ cancel_line (only_number fields.old) }
+{
+    Some(Line::Call(LineCall::Cancel(only_number(fields)?)))
+}
+
+fn info_line(fields: &mut Fields) -> Option<Line>
+    ensures { result ≡ info_line (only_number fields.old) }
+{
+    Some(Line::Info(only_number(fields)?))
+}
+
+// The line of a type's number, its other fields still to be read.
+fn line_of_type(kind: u32, fields: &mut Fields, devices: usize) -> Option<Line>
+    ensures { result ≡ line_of_type devices (Some kind) fields.old }
+{
     match kind {
-        JobType::NoJob => Line::Unreadable,
-        JobType::Write => Line::Call(LineCall::Write(target)),
-        JobType::Read => Line::Call(LineCall::Read(target)),
-        JobType::Compare => Line::Call(LineCall::Compare(target)),
-        JobType::Erase => Line::Call(LineCall::Erase(target)),
-        JobType::BlankCheck => Line::Call(LineCall::BlankCheck(target)),
-        JobType::Lock => Line::Call(LineCall::Lock(target)),
+        0 => round_line(fields, devices),
+        8 => release_line(fields),
+        9 => cancel_line(fields),
+        10 => info_line(fields),
+        _ => job_line(kind_of(kind), fields),
     }
 }
 
-fn job_line(kind: JobType, target: TargetFields) -> Line
-    ensures { result ≡ job_line kind target }
-{
-    match target {
-        TargetFields::NoTarget => Line::Unreadable,
-        TargetFields::At(target) => job_in(kind, target),
-    }
-}
-
-fn release_line(target: TargetFields) -> Line
-    ensures { result ≡ release_line target }
-{
-    match target {
-        TargetFields::NoTarget => Line::Unreadable,
-        TargetFields::At(target) => Line::Call(LineCall::Release(target)),
-    }
-}
-
-fn cancel_line(area: Number) -> Line
-    ensures { result ≡ cancel_line area }
-{
-    match area {
-        Number::NoNumber => Line::Unreadable,
-        Number::Value(area) => Line::Call(LineCall::Cancel(area)),
-    }
-}
-
-fn info_line(area: Number) -> Line
-    ensures { result ≡ info_line area }
-{
-    match area {
-        Number::NoNumber => Line::Unreadable,
-        Number::Value(area) => Line::Info(area),
-    }
-}
-
-// The line of a type's number, its other fields from byte `at` on.
-fn line_of_type(kind: u32, line: &[u8], at: usize, devices: usize) -> Line
-    ensures { result ≡ line_of_type devices (Number.Value kind) (fields_from line.now at) }
-{
-    if kind == 0 {
-        return round_line(line, at, devices);
-    }
-    if kind == 8 {
-        return release_line(target_from(line, at));
-    }
-    if kind == 9 {
-        return cancel_line(only_number(line, at));
-    }
-    if kind == 10 {
-        return info_line(only_number(line, at));
-    }
-    let job = kind_of(kind);
-    job_line(job, target_from(line, at))
-}
-
-// What a line asks for, where the plan has so many devices; the line's bytes are without its end.
-pub fn line_of(line: &[u8], devices: usize) -> Line
+// What a line asks for, where the plan has so many devices; the line's bytes are without its end. `None` is a line
+// that cannot be read.
+#[tactic(auto, using(crate::specs::laws::FieldLaws::fields_all), unfolding(crate::specs::Lines::line_of))]
+pub fn line_of(line: &[u8], devices: usize) -> Option<Line>
     ensures { result ≡ line_of devices line.now }
 {
-    if 4096 < line.len() {
-        return Line::Unreadable;
+    if LONGEST_LINE < line.len() {
+        return None;
     }
-    let field = next_number(line, 0);
-    let number = field.number;
-    match number {
-        Number::NoNumber => Line::Unreadable,
-        Number::Value(kind) => line_of_type(kind, line, field.next, devices),
-    }
+    let mut fields = Fields { line, at: 0 };
+    let kind = fields.number()?;
+    line_of_type(kind, &mut fields, devices)
 }

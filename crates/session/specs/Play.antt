@@ -1,8 +1,8 @@
 -- document 01, "A printed session": what a line does and prints. The calls are those of the manager (manager, Calls).
-use Rattle.std.specs.Prelude.{ℕ, List, [], ◌∷◌}
+use Rattle.std.specs.Prelude.{ℕ, Option, Some, None, List, [], ◌∷◌}
 use Rattle.lines.specs.Lines.{line_of}
 use Rattle.lines.specs.declared.Line.{Line}
-use Rattle.lines.specs.declared.Line.TheVariants.{Unreadable, Call, Info, Round}
+use Rattle.lines.specs.declared.Line.TheVariants.{Call, Info, Round}
 use Rattle.lines.specs.declared.LineCall.{LineCall}
 use Rattle.lines.specs.declared.LineCall.TheVariants as Calls
 use Rattle.lines.specs.declared.Target.{Target}
@@ -63,26 +63,26 @@ abbrev pub four_answers : DeviceAnswer → DeviceAnswer → DeviceAnswer → Dev
 four_answers a b c d = a ∷ b ∷ c ∷ d ∷ []
 
 -- "each prints its number, but accepted info prints" its values; "A line of another type .. prints '?'"
-abbrev pub text_of_line : Line → Manager → Memory → List ℕ
-text_of_line Unreadable m lent = question_line
-text_of_line (Call x) m lent = number_line (number_of_call x m)
-text_of_line (Info a) m lent = info_text (info_number_of m a) (info_of m a)
-text_of_line (Round a b c d) m lent = round_text (round_number_of m lent) (after_round m (four_answers a b c d) lent)
+abbrev pub text_of_line : Option Line → Manager → Memory → List ℕ
+text_of_line None m lent = question_line
+text_of_line (Some (Call x)) m lent = number_line (number_of_call x m)
+text_of_line (Some (Info a)) m lent = info_text (info_number_of m a) (info_of m a)
+text_of_line (Some (Round a b c d)) m lent = round_text (round_number_of m lent) (after_round m (four_answers a b c d) lent)
 
-abbrev pub after_line : Line → Manager → Memory → Manager
-after_line Unreadable m lent = m
-after_line (Call x) m lent = after_call x m
-after_line (Info a) m lent = m
-after_line (Round a b c d) m lent = after_round m (four_answers a b c d) lent
+abbrev pub after_line : Option Line → Manager → Memory → Manager
+after_line None m lent = m
+after_line (Some (Call x)) m lent = after_call x m
+after_line (Some (Info a)) m lent = m
+after_line (Some (Round a b c d)) m lent = after_round m (four_answers a b c d) lent
 
-abbrev pub memory_after_line : Line → Manager → Memory → Memory
-memory_after_line Unreadable m lent = lent
-memory_after_line (Call x) m lent = lent
-memory_after_line (Info a) m lent = lent
-memory_after_line (Round a b c d) m lent = memory_after_round m (four_answers a b c d) lent
+abbrev pub memory_after_line : Option Line → Manager → Memory → Memory
+memory_after_line None m lent = lent
+memory_after_line (Some (Call x)) m lent = lent
+memory_after_line (Some (Info a)) m lent = lent
+memory_after_line (Some (Round a b c d)) m lent = memory_after_round m (four_answers a b c d) lent
 
 -- the bytes of a line, without its end
-abbrev pub line_in : Manager → List ℕ → Line
+abbrev pub line_in : Manager → List ℕ → Option Line
 line_in m l = line_of m.plan.device_count l
 
 unfoldable pub played_text : Manager → List ℕ → Memory → List ℕ

@@ -1,24 +1,26 @@
 // What a line's call changes of the manager, and its answer printed into a lent buffer, of which the bytes behind the answer are left open.
 ghost use Rattle.std.specs.Prelude.{◌≡◌, ℕ, ◌+◌, ◌≤◌, ◌<◌, List, length};
 ghost use Rattle.devices.specs.Arrays.{core_in};
+ghost use Rattle.effects.specs.Effects.{memory_of};
 ghost use Rattle.changes.specs.Accepted.{if_accepted};
-ghost use Rattle.manager.specs.Calls.{manager_of, changed};
+ghost use Rattle.manager.specs.Calls.{manager_of, changed, round_number_of, after_round, memory_after_round};
 ghost use Rattle.memory.specs.Numbers.{admission_number};
 ghost use Rattle.shown.specs.Shown.{devices_line};
 ghost use Rattle.texts.specs.Appended.{Appended};
 ghost use Rattle.texts.specs.Texts.{number_line};
-ghost use Rattle.session.specs.Play.{number_of_call, after_call, info_text};
-ghost use Rattle.session.specs.laws.PlayLaws.{job_of, plain_of};
+ghost use Rattle.session.specs.Play.{number_of_call, after_call, info_text, round_text};
+ghost use Rattle.session.specs.laws.PlayLaws.{job_of, plain_of, LineDone};
 
 use changes::Change;
-use lines::{LineCall, Target};
-use manager::JobInfoAnswer;
-use manager::in_place::{cancel_change, job_change, release_change};
-use memory::{Admission, JobType, LogicalAddress, Task};
+use lines::{Line, LineCall, Target};
+use manager::in_place::{RoundChange, cancel_change, job_change, release_change, round_change};
+use manager::{JobInfoAnswer, Manager, info_of};
+use memory::{Admission, DeviceAnswer, JobType, LogicalAddress, Task};
 use plan::records::Plan;
 use shown::devices_line;
 use state::{Area, Device};
-use texts::{info_line, number_line};
+use texts::{info_line, number_line, question_line};
+use wear::add_worn;
 
 // A call by the function that carries it out: one for the five jobs and the lock request.
 #[derive(Clone, Copy)]
@@ -130,4 +132,95 @@ pub fn print_round(
         return number_line(out, at, number as u64);
     }
     devices_line(out, at, plan, areas, devices)
+}
+
+fn play_call(manager: &mut Manager, call: LineCall, out: &mut [u8], at: usize) -> usize
+    requires { at + 338 ≤ length out.old }
+    ensures { (manager.new ≡ after_call call manager.old) × (Appended out.old out.new at result (number_line (number_of_call call manager.old))) × (result ≤ at + 338) }
+{
+    let Change {
+        area_number,
+        area,
+        device_number,
+        device,
+        ages,
+        answer,
+    } = make(
+        manager.plan,
+        manager.areas,
+        manager.devices,
+        manager.ages,
+        call,
+    );
+    manager.areas[area_number] = area;
+    manager.devices[device_number] = device;
+    manager.ages = ages;
+    print_answer(out, at, answer)
+}
+
+fn play_round(
+    manager: &mut Manager,
+    answers: [DeviceAnswer; 4],
+    image: &mut [u8],
+    store: &mut [u8],
+    out: &mut [u8],
+    at: usize,
+) -> usize
+    requires { at + 338 ≤ length out.old }
+    ensures manager_value { manager.new ≡ after_round manager.old answers (memory_of image.old store.old) }
+    ensures image_after { image.new ≡ (memory_after_round manager.old answers (memory_of image.old store.old)).image }
+    ensures store_after { store.new ≡ (memory_after_round manager.old answers (memory_of image.old store.old)).store }
+    ensures appended { (Appended out.old out.new at result (round_text (round_number_of manager.old (memory_of image.old store.old)) (after_round manager.old answers (memory_of image.old store.old)))) × (result ≤ at + 338) }
+{
+    let RoundChange {
+        areas,
+        devices,
+        worn,
+        answer,
+    } = round_change(
+        manager.plan,
+        manager.areas,
+        manager.devices,
+        manager.ages,
+        answers,
+        image,
+        store,
+    );
+    manager.areas = areas;
+    manager.devices = devices;
+    add_worn(&mut manager.wear, worn);
+    print_round(out, at, answer, manager.plan, areas, devices)
+}
+
+// What a line does, and its answer: that of a line that cannot be read is a question mark.
+pub fn play_line(
+    manager: &mut Manager,
+    line: Option<Line>,
+    image: &mut [u8],
+    store: &mut [u8],
+    out: &mut [u8],
+    at: usize,
+) -> usize
+    requires { at + 338 ≤ length out.old }
+    ensures { LineDone line manager.old manager.new (memory_of image.old store.old) (memory_of image.new store.new) out.old out.new at result }
+{
+    match line {
+        None => question_line(out, at),
+        Some(Line::Call(call)) => play_call(manager, call, out, at),
+        Some(Line::Info(area)) => {
+            let asked = info_of(manager.plan, manager.areas, manager.devices, area as usize);
+            print_info(out, at, asked)
+        }
+        Some(
+            Line::Round {
+                first,
+                second,
+                third,
+                fourth,
+            },
+        ) => {
+            let answers = [first, second, third, fourth];
+            play_round(manager, answers, image, store, out, at)
+        }
+    }
 }

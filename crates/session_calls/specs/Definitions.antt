@@ -1,5 +1,5 @@
 -- document 01, "A printed session" and "The wait book": the calls that the lines of a session are.
-use Rattle.std.specs.Prelude.{ℕ, List, [], ◌∷◌, ◌++◌, true, ◌≡◌, take}
+use Rattle.std.specs.Prelude.{ℕ, Option, Some, None, List, [], ◌∷◌, ◌++◌, true, ◌≡◌, take}
 use Rattle.lines.specs.declared.Line.{Line}
 use Rattle.lines.specs.declared.Line.TheVariants as Lines
 use Rattle.lines.specs.declared.LineCall.{LineCall}
@@ -31,11 +31,11 @@ call_in (Calls.Cancel a) = cancels a
 
 -- "'10 area' job info"; "'0' and one answer per device (p, d, or k) is a round", to which the memory of that moment is lent. A line that
 -- prints "?" is no call.
-abbrev pub calls_of_line : Line → Memory → List Call
-calls_of_line Lines.Unreadable lent = []
-calls_of_line (Lines.Call x) lent = call_in x ∷ []
-calls_of_line (Lines.Info a) lent = asks (job_info a) ∷ []
-calls_of_line (Lines.Round a b c d) lent = round (four_answers a b c d) lent ∷ []
+abbrev pub calls_of_line : Option Line → Memory → List Call
+calls_of_line None lent = []
+calls_of_line (Some (Lines.Call x)) lent = call_in x ∷ []
+calls_of_line (Some (Lines.Info a)) lent = asks (job_info a) ∷ []
+calls_of_line (Some (Lines.Round a b c d)) lent = round (four_answers a b c d) lent ∷ []
 
 -- what calls leave of the lent memory, each call with what the one before left
 unfoldable pub memory_left : List Call → Manager → Memory → Memory

@@ -1,12 +1,12 @@
 -- The reader of fields, byte by byte.
-use Rattle.std.specs.Prelude.{ℕ, suc, ◌+◌, ◌-◌, ◌≤◌, ◌<◌, ◌≡◌, refl, true, false, length, get_or, take, drop}
+use Rattle.std.specs.Prelude.{ℕ, suc, ltb, ◌+◌, ◌-◌, ◌≤◌, ◌<◌, ◌≡◌, refl, true, false, length, get_or, take, drop}
 use Rattle.std.proofs.Common.{◌∙◌, true≢false, add-one, arith, length-drop, take-suc, get_or-drop}
 use mathlib.Core.List.{List, [], ◌∷◌, ◌++◌, append_assoc, append-nil}
 use Rattle.std.proofs.Math.Nat.{sub_self}
 use borrow.Author.Tests.{eq-eqb, ne_eqb, le-leb, lt-leb}
 use Rattle.std.proofs.Math.ListN.{drop_of_length-le}
 use Rattle.std.proofs.Math.Seq.{drop-cons}
-use Rattle.arith.specs.Cases.{by_eqb}
+use Rattle.arith.specs.Cases.{by_eqb, by_ltb}
 use Rattle.lines.specs.Fields.{in_front, cut_at, cut_from, is_last}
 
 -- the laws of the reader
@@ -84,3 +84,7 @@ module _ (c : ℕ) (l : List ℕ) where
 
   pub no_fields : (i : ℕ) → length l < i → is_last (cut_from c l i) ≡ true
   no_fields i h = rw (fields_past i h)
+
+  -- is byte i past the end?
+  pub past_last : (i : ℕ) → ltb (length l) i ≡ is_last (cut_from c l i)
+  past_last i = by_ltb (length l) i (λ e h. rw (e, no_fields i h)) (λ e h. rw (e, more_fields i h))

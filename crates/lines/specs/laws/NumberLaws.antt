@@ -1,10 +1,9 @@
 -- The reader of a number, digit by digit.
-use Rattle.std.specs.Prelude.{ℕ, zero, suc, ◌+◌, ◌-◌, ◌*◌, ◌≤◌, ◌<◌, ◌≡◌, true, false, List, ltb, length, get_or}
+use Rattle.std.specs.Prelude.{ℕ, zero, suc, ◌+◌, ◌-◌, ◌*◌, ◌≤◌, ◌<◌, ◌≡◌, true, false, Some, None, List, ltb, length, get_or}
 use Rattle.std.proofs.Common.{eq-or-lt_of_le, le_of_suc-le-suc, add-one, arith, ⊎_elim}
 use borrow.Author.Tests.{lt-ltb, le-ltb, le-leb, lt-leb}
 use Rattle.arith.specs.Bounded.{every, every_fails}
 use Rattle.arith.specs.Cases.{by_bool}
-use Rattle.lines.specs.declared.Number.TheVariants.{NoNumber, Value}
 use Rattle.lines.specs.Number.{digit_at, value_of, number_of}
 
 -- one digit more
@@ -21,21 +20,15 @@ value_grows l i (suc n) h =
 
 -- the cases of the reader
 module _ (l : List ℕ) where
-  pub number_empty : length l ≤ 0 → number_of l ≡ NoNumber
+  pub number_empty : length l ≤ 0 → number_of l ≡ None
   unfolding number_of
   number_empty h = rw (le-ltb _ _ h)
 
-  pub number_no_digit : (i : ℕ) → i < length l → digit_at l i ≡ false → number_of l ≡ NoNumber
+  pub number_no_digit : (i : ℕ) → i < length l → digit_at l i ≡ false → number_of l ≡ None
   unfolding number_of
   number_no_digit i h e = simp (lt-ltb 0 (length l) (omega arith), every_fails (digit_at l) (length l) i h e)
 
-  pub number_low : (i : ℕ) → i < length l → get_or l i 0 < 48 → number_of l ≡ NoNumber
-  number_low i h e = number_no_digit i h (rw (lt-leb _ _ e))
-
-  pub number_high : (i : ℕ) → i < length l → 48 ≤ get_or l i 0 → 57 < get_or l i 0 → number_of l ≡ NoNumber
-  number_high i h e f = number_no_digit i h (rw (le-leb _ _ e, lt-leb _ _ f))
-
-  pub number_over : (i : ℕ) → i ≤ length l → 4294967295 < value_of l i → number_of l ≡ NoNumber
+  pub number_over : (i : ℕ) → i ≤ length l → 4294967295 < value_of l i → number_of l ≡ None
   unfolding number_of
   number_over i h e =
       let g : 4294967295 < value_of l (length l) = omega (arith, value_grows l i (length l) h) in
@@ -43,9 +36,6 @@ module _ (l : List ℕ) where
       (λ t. by_bool (every (digit_at l) (length l)) (λ u. simp (t, u, lt-leb _ _ g)) (λ u. simp (t, u)))
       (λ t. rw t)
 
-  pub number_is : (n : ℕ) → n ≡ length l → 0 < n → every (digit_at l) n ≡ true → value_of l n ≤ 4294967295 → number_of l ≡ Value (value_of l n)
+  pub number_is : (n : ℕ) → n ≡ length l → 0 < n → every (digit_at l) n ≡ true → value_of l n ≤ 4294967295 → number_of l ≡ Some (value_of l n)
   unfolding number_of
   number_is n e h d v = rw (← e, lt-ltb _ _ h, d, le-leb _ _ v)
-
-  pub digit_at_lem : (i : ℕ) → 48 ≤ get_or l i 0 → get_or l i 0 ≤ 57 → digit_at l i ≡ true
-  digit_at_lem i h k = rw (le-leb _ _ h, le-leb _ _ k)

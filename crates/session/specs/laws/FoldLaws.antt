@@ -1,5 +1,5 @@
 -- The lines by the cases that the code takes apart.
-use Rattle.std.specs.Prelude.{ℕ, ◌+◌, ◌-◌, ◌≤◌, ◌<◌, Bool, ◌≡◌, ltb, take}
+use Rattle.std.specs.Prelude.{ℕ, Option, ◌+◌, ◌-◌, ◌≤◌, ◌<◌, Bool, ◌≡◌, ltb, take}
 use Rattle.std.proofs.Math.Bool.{true, false}
 use Rattle.std.proofs.Common.{true≢false, ◌∙◌, arith, length-take, length-drop, length-take-le}
 use Rattle.std.proofs.lemmas.Bool.{false≢true}
@@ -122,7 +122,7 @@ module _ (ends : Bool) (room : ℕ) (m : Manager) (image store out : List ℕ) (
         ∙ last_line line here ends some.0 (omega (arith, long, some.1))
         ∙ last h)
 
-    pub lines_turn : is_line ends from to (length input) ≡ true → used ≡ from → (l : Line) (next : Manager) (image' store' : List ℕ) {out' : List ℕ} {end' : ℕ} →
+    pub lines_turn : is_line ends from to (length input) ≡ true → used ≡ from → (l : Option Line) (next : Manager) (image' store' : List ℕ) {out' : List ℕ} {end' : ℕ} →
         l ≡ line_in m line → LineDone l m next (memory_of image store) (memory_of image' store') out out' end end' →
         (x : Session) → played_lines ends room (cut_from 10 input from) here ≡ x →
         (end' ≤ end + 338)

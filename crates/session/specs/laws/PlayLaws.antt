@@ -1,23 +1,21 @@
 -- A line by the cases that the code takes apart.
-use Rattle.std.specs.Prelude.{ℕ, ◌+◌, ◌≤◌, ◌<◌, List, ◌≡◌, refl}
+use Rattle.std.specs.Prelude.{ℕ, Option, Some, ◌+◌, ◌≤◌, ◌<◌, List, ◌≡◌, refl}
 use Rattle.std.proofs.Common.{sym, ap, ◌∙◌, arith, eq-eqb, ne_eqb}
 use Rattle.state.specs.declared.JobInfo.{JobInfo}
 use Rattle.texts.specs.Appended.{Appended}
-use Rattle.texts.specs.Texts.{number_line, question_line, info_line}
+use Rattle.texts.specs.Texts.{number_line, info_line}
 use Rattle.lines.specs.declared.Line.{Line}
-use Rattle.lines.specs.declared.Line.TheVariants.{Unreadable, Call, Info, Round}
 use Rattle.lines.specs.declared.LineCall.{LineCall}
 use Rattle.lines.specs.declared.LineCall.TheVariants as Calls
 use Rattle.lines.specs.declared.Target.{Target}
-use Rattle.manager.specs.Calls.{job_number_of, after_job, release_number_of, after_release, cancel_number_of, after_cancel, info_number_of, info_of, round_number_of, after_round, memory_after_round}
+use Rattle.manager.specs.Calls.{job_number_of, after_job, release_number_of, after_release, cancel_number_of, after_cancel}
 use Rattle.manager.specs.declared.Manager.{Manager}
-use Rattle.memory.specs.declared.DeviceAnswer.{DeviceAnswer}
 use Rattle.memory.specs.declared.JobType.{JobType}
 use Rattle.memory.specs.declared.JobType.TheVariants.{Write, Read, Compare, Erase, BlankCheck, Lock}
 use Rattle.rules.specs.Memory.{Memory}
 use Rattle.session.specs.declared.play.PlainCall.{PlainCall}
 use Rattle.session.specs.declared.play.PlainCall.TheVariants as Plain
-use Rattle.session.specs.Play.{address_in, task_in, number_of_call, after_call, info_text, round_text, four_answers, text_of_line, after_line, memory_after_line, line_in, played_text, played_manager, played_memory}
+use Rattle.session.specs.Play.{address_in, task_in, number_of_call, after_call, info_text, round_text, text_of_line, after_line, memory_after_line, line_in, played_text, played_manager, played_memory}
 
 -- a call by the function that carries it out
 abbrev pub job_of : JobType → Target → PlainCall
@@ -73,33 +71,25 @@ pub number_same : {a b : List ℕ} {i j n m : ℕ} → n ≡ m → Appended a b 
 number_same e p = rw e at p
 
 -- what a line did: the manager that it left, the lent memory, and the text that it printed
-abbrev pub LineDone : Line → Manager → Manager → Memory → Memory → List ℕ → List ℕ → ℕ → ℕ → Type 0
+abbrev pub LineDone : Option Line → Manager → Manager → Memory → Memory → List ℕ → List ℕ → ℕ → ℕ → Type 0
 LineDone l m next lent memory before after at end =
     (next ≡ after_line l m lent)
     × ((memory.image ≡ (memory_after_line l m lent).image)
     × ((memory.store ≡ (memory_after_line l m lent).store)
     × ((Appended before after at end (text_of_line l m lent)) × (end ≤ at + 338))))
 
-module _ (l : Line) (m : Manager) (lent : Memory) {a b : List ℕ} {i j : ℕ} where
-  pub unreadable_done : l ≡ Unreadable → Appended a b i j question_line → j ≤ i + 338 → LineDone l m m lent lent a b i j
-  unreadable_done e p few = rw e (refl, (refl, (refl, (p, few))))
+pub info_same : {a b : List ℕ} {i j n m : ℕ} {x y : JobInfo} → n ≡ m → x ≡ y → Appended a b i j (info_text n x) → Appended a b i j (info_text m y)
+info_same e f p = rw (e, f) at p
 
-  pub info_done : (x : ℕ) → l ≡ Info x → (n : ℕ) (info : JobInfo) → n ≡ info_number_of m x → info ≡ info_of m x → Appended a b i j (info_text n info) → j ≤ i + 338 →
-      LineDone l m m lent lent a b i j
-  info_done x e n info f g p few = rw e (refl, (refl, (refl, (rw (f, g) at p, few))))
+pub round_same : {a b : List ℕ} {i j n m : ℕ} {next after : Manager} → n ≡ m → next ≡ after → Appended a b i j (round_text n next) → Appended a b i j (round_text m after)
+round_same e f p = rw (e, f) at p
 
-  pub call_done : (x : LineCall) (next : Manager) → l ≡ Call x → (n : ℕ) → n ≡ number_of_call x m → next ≡ after_call x m → Appended a b i j (number_line n) → j ≤ i + 338 →
-      LineDone l m next lent lent a b i j
-  call_done x next e n f g p few = rw e (g, (refl, (refl, (number_same f p, few))))
-
-  pub round_done : (x y z w : DeviceAnswer) (next : Manager) (memory : Memory) → l ≡ Round x y z w → (n : ℕ) → n ≡ round_number_of m lent →
-      next ≡ after_round m (four_answers x y z w) lent →
-      memory.image ≡ (memory_after_round m (four_answers x y z w) lent).image → memory.store ≡ (memory_after_round m (four_answers x y z w) lent).store →
-      Appended a b i j (round_text n next) → j ≤ i + 338 → LineDone l m next lent memory a b i j
-  round_done x y z w next memory e n k f g h p few = rw e (f, (g, (h, (rw (k, f) at p, few))))
+pub line_is : (l : Option Line) (x y : Line) (m next : Manager) (lent memory : Memory) {a b : List ℕ} {i j : ℕ} → l ≡ Some x → x ≡ y →
+    LineDone (Some y) m next lent memory a b i j → LineDone l m next lent memory a b i j
+line_is l x y m next lent memory e f p = rw (e, f) p
 
 -- the line that the bytes say
-pub line_done : (bytes : List ℕ) (l : Line) (m next : Manager) (lent memory : Memory) {a b : List ℕ} {i j : ℕ} → l ≡ line_in m bytes →
+pub line_done : (bytes : List ℕ) (l : Option Line) (m next : Manager) (lent memory : Memory) {a b : List ℕ} {i j : ℕ} → l ≡ line_in m bytes →
     LineDone l m next lent memory a b i j →
     (next ≡ played_manager m bytes lent)
     × ((memory.image ≡ (played_memory m bytes lent).image)

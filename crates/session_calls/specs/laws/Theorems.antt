@@ -1,5 +1,5 @@
 -- A session is a run of the program (program/Run) over the calls that its lines are: so all that holds of runs holds of it.
-use Rattle.std.specs.Prelude.{ℕ, Bool, true, List, [], ◌∷◌, ◌++◌, ◌≡◌, refl, ltb, take}
+use Rattle.std.specs.Prelude.{ℕ, Option, Some, None, Bool, true, List, [], ◌∷◌, ◌++◌, ◌≡◌, refl, ltb, take}
 use Rattle.std.proofs.Common.{sym, ap, subst, ◌∙◌}
 use Rattle.arith.specs.Cases.{by_bool}
 use Rattle.lines.specs.declared.Line.{Line}
@@ -46,13 +46,13 @@ call_lends (Calls.Lock t) m lent = refl
 call_lends (Calls.Release t) m lent = refl
 call_lends (Calls.Cancel a) m lent = refl
 
-line_ran : (l : Line) (m : Manager) (lent : Memory) →
+line_ran : (l : Option Line) (m : Manager) (lent : Memory) →
     (after_line l m lent ≡ run_of (calls_of_line l lent) m) × (memory_after_line l m lent ≡ memory_left (calls_of_line l lent) m lent)
 unfolding run_of memory_left
-line_ran Lines.Unreadable m lent = (refl, refl)
-line_ran (Lines.Call x) m lent = (call_ran x m, call_lends x m lent)
-line_ran (Lines.Info a) m lent = (refl, refl)
-line_ran (Lines.Round a b c d) m lent = (refl, refl)
+line_ran None m lent = (refl, refl)
+line_ran (Some (Lines.Call x)) m lent = (call_ran x m, call_lends x m lent)
+line_ran (Some (Lines.Info a)) m lent = (refl, refl)
+line_ran (Some (Lines.Round a b c d)) m lent = (refl, refl)
 
 -- a line is the run of its calls
 played_ran : (l : List ℕ) (b : BenchState) → played_on l b ≡ ran_of (calls_of_line (line_in b.manager l) b.memory) b
