@@ -1,14 +1,25 @@
 // What a session prints (document 01, "A printed session"), written behind what stands in a lent buffer.
 #![tactic(auto)]
 
-ghost use Rattle.std.specs.Prelude.{◌≡◌, [], ◌∷◌, ◌+◌, ◌/◌, ◌%◌, ◌^◌, ◌≤◌, ◌<◌, length};
+ghost use Rattle.std.specs.Prelude.{◌≡◌, [], ◌∷◌, ◌+◌, ◌≤◌, ◌<◌, length};
 ghost use Rattle.texts.specs.Appended.{Appended};
-ghost use Rattle.texts.specs.Texts.{behind, digit_count, decimal, number_line, question_line, info_line, free_text, locked_text, request_text};
+ghost use Rattle.texts.specs.Texts.{behind, decimal, number_line, question_line, info_line, free_text, locked_text, request_text};
 
+use itoa::Buffer;
 use memory::JobResult;
 use state::Waits;
 
-// One byte behind the first `at`; the answer is where the text ends.
+// A text behind the first `at` bytes; the answer is where it ends.
+pub fn push_text(out: &mut [u8], at: usize, text: &[u8]) -> usize
+    requires { at + length text.now ≤ length out.old }
+    ensures { (Appended out.old out.new at result text.now) × (result ≡ at + length text.now) }
+{
+    let end = at + text.len();
+    out[at..end].copy_from_slice(text);
+    end
+}
+
+// One byte.
 pub fn push(out: &mut [u8], at: usize, byte: u8) -> usize
     requires { at < length out.old }
     ensures { (Appended out.old out.new at result (byte ∷ [])) × (result ≡ at + 1) }
@@ -17,49 +28,12 @@ pub fn push(out: &mut [u8], at: usize, byte: u8) -> usize
     at + 1
 }
 
-// The place of a number's first digit: how many digits stand behind it, and its power of ten.
-#[derive(Clone, Copy)]
-struct Place {
-    behind: usize,
-    power: u64,
-}
-
-fn first_place(n: u64) -> Place
-    ensures { (result.behind + 1 ≡ digit_count n) × (result.power ≡ 10 ^ result.behind) }
-{
-    let mut behind = 0;
-    let mut power: u64 = 1;
-    while power <= n / 10 {
-        power *= 10;
-        behind += 1;
-    }
-    Place { behind, power }
-}
-
-fn digit_at(n: u64, power: u64) -> u8
-    requires { 0 < power }
-    ensures { result ≡ 48 + n / power % 10 }
-{
-    let digit = n / power % 10;
-    48 + digit as u8
-}
-
 // A number takes at most 20 bytes.
 pub fn push_number(out: &mut [u8], at: usize, n: u64) -> usize
     requires { at + 20 ≤ length out.old }
     ensures { (Appended out.old out.new at result (decimal n)) × (result ≤ at + 20) }
 {
-    let place = first_place(n);
-    let mut left = place.behind + 1;
-    let mut power = place.power;
-    let mut end = at;
-    while 0 < left {
-        let digit = digit_at(n, power);
-        end = push(out, end, digit);
-        power /= 10;
-        left -= 1;
-    }
-    end
+    push_text(out, at, Buffer::new().format(n).as_bytes())
 }
 
 // A number behind a character.
@@ -71,6 +45,7 @@ fn push_behind(out: &mut [u8], at: usize, character: u8, n: u64) -> usize
     push_number(out, end, n)
 }
 
+#[tactic(auto, using(crate::specs::laws::AppendLaws::append_more), unfolding(crate::specs::Texts::number_line))]
 pub fn number_line(out: &mut [u8], at: usize, n: u64) -> usize
     requires { at + 21 ≤ length out.old }
     ensures { (Appended out.old out.new at result (number_line n)) × (result ≤ at + 21) }
@@ -83,10 +58,10 @@ pub fn question_line(out: &mut [u8], at: usize) -> usize
     requires { at + 2 ≤ length out.old }
     ensures { (Appended out.old out.new at result question_line) × (result ≤ at + 2) }
 {
-    let end = push(out, at, b'?');
-    push(out, end, b'\n')
+    push_text(out, at, b"?\n")
 }
 
+#[tactic(auto, using(crate::specs::laws::AppendLaws::append_more), unfolding(crate::specs::Texts::behind))]
 fn push_waits(out: &mut [u8], at: usize, waits: Waits) -> usize
     requires { at + 84 ≤ length out.old }
     ensures { (Appended out.old out.new at result (behind 32 (waits.own ∷ waits.above ∷ waits.below ∷ waits.locked ∷ []))) × (result ≤ at + 84) }
@@ -97,6 +72,7 @@ fn push_waits(out: &mut [u8], at: usize, waits: Waits) -> usize
     push_behind(out, below, b' ', waits.locked as u64)
 }
 
+#[tactic(auto, using(crate::specs::laws::AppendLaws::append_more), unfolding(crate::specs::Texts::info_line))]
 pub fn info_line(out: &mut [u8], at: usize, res: JobResult, processed: u32, waits: Waits) -> usize
     requires { at + 126 ≤ length out.old }
     ensures { (Appended out.old out.new at result (info_line res.0 processed waits.own waits.above waits.below waits.locked)) × (result ≤ at + 126) }
@@ -112,18 +88,17 @@ pub fn free_text(out: &mut [u8], at: usize) -> usize
     requires { at + 2 ≤ length out.old }
     ensures { (Appended out.old out.new at result free_text) × (result ≤ at + 2) }
 {
-    let end = push(out, at, b' ');
-    push(out, end, b'-')
+    push_text(out, at, b" -")
 }
 
 pub fn locked_text(out: &mut [u8], at: usize) -> usize
     requires { at + 2 ≤ length out.old }
     ensures { (Appended out.old out.new at result locked_text) × (result ≤ at + 2) }
 {
-    let end = push(out, at, b' ');
-    push(out, end, b'L')
+    push_text(out, at, b" L")
 }
 
+#[tactic(auto, using(crate::specs::laws::AppendLaws::append_more), unfolding(crate::specs::Texts::request_text))]
 pub fn request_text(
     out: &mut [u8],
     at: usize,
