@@ -34,23 +34,16 @@ fn request_on(area: usize, segment: Segment, state: DeviceState) -> RequestInfo
     ensures { result ≡ request_on area segment state }
 {
     match state {
-        DeviceState::Free => no_request(),
         DeviceState::Runs {
             area: runner,
             polls,
-        } => {
-            if runner as usize != area {
-                return no_request();
-            }
-            let start = segment.start;
-            RequestInfo {
-                device: segment.device,
-                start,
-                length: segment.length,
-                polls,
-            }
-        }
-        DeviceState::LockedFor(_) => no_request(),
+        } if runner as usize == area => RequestInfo {
+            device: segment.device,
+            start: segment.start,
+            length: segment.length,
+            polls,
+        },
+        _ => no_request(),
     }
 }
 
@@ -59,40 +52,33 @@ fn running_request(plan: Plan, areas: [Area; 8], devices: [Device; 4], area: usi
     requires { (plan.sub_area_count ≤ 32) × (area < 8) }
     ensures { result ≡ request_on area (due (layout_of plan) area (job_in areas area)) (state_in devices (need (layout_of plan) area (job_in areas area))) }
 {
-    let entry = areas[area];
-    let job = entry.job;
-    let task = job.task;
-    let segment = segment_at(plan, area, task, job.processed);
-    let state = state_on(devices, segment.device as usize);
-    request_on(area, segment, state)
+    let job = areas[area].job;
+    let segment = segment_at(plan, area, job.task, job.processed);
+    request_on(area, segment, state_on(devices, segment.device as usize))
 }
 
 fn request_info(plan: Plan, areas: [Area; 8], devices: [Device; 4], area: usize) -> RequestInfo
     requires { (plan.sub_area_count ≤ 32) × (area < 8) }
     ensures { result ≡ request_on area (due (layout_of plan) area (job_in areas area)) (state_in devices (need (layout_of plan) area (job_in areas area))) }
 {
-    if !held_somewhere(devices, area) {
-        return no_request();
+    if held_somewhere(devices, area) {
+        running_request(plan, areas, devices, area)
+    } else {
+        no_request()
     }
-    running_request(plan, areas, devices, area)
 }
 
 pub fn job_info(plan: Plan, areas: [Area; 8], devices: [Device; 4], area: usize) -> JobInfo
     requires { (plan.sub_area_count ≤ 32) × (area < 8) }
     ensures { result ≡ job_info_of plan (core_in areas devices) (get_or areas area fresh_area).waits area }
 {
-    let request = request_info(plan, areas, devices, area);
-    let entry = areas[area];
-    let job = entry.job;
-    let task = job.task;
-    let result = job.result;
-    let waits = entry.waits;
+    let Area { job, waits } = areas[area];
     JobInfo {
-        task,
-        result,
+        task: job.task,
+        result: job.result,
         processed: job.processed,
         waits,
-        request,
+        request: request_info(plan, areas, devices, area),
     }
 }
 
@@ -116,17 +102,13 @@ fn memory_in(address: LogicalAddress, sub_area: SubAreaRecord, offset: u64) -> M
     requires { (offset ≤ address.0) × (offset < size_of sub_area) }
     ensures { result ≡ memory_info_in address sub_area offset }
 {
-    let size = sub_area.size();
-    let erase = sub_area.erase;
-    let write = sub_area.write;
-    let read = sub_area.read;
     MemoryInfo {
         logical_start: LogicalAddress(address.0 - (offset as u32)),
         physical_start: MemAddress(sub_area.start as u64),
-        max_offset: size - 1,
-        erase,
-        write,
-        read,
+        max_offset: sub_area.size() - 1,
+        erase: sub_area.erase,
+        write: sub_area.write,
+        read: sub_area.read,
         device: sub_area.device,
     }
 }

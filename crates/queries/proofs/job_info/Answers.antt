@@ -3,4 +3,4 @@ use Rattle.queries.proofs.job_info.Goals as goal
 
 pub returns : goal.returns
 unfolding job_info_of
-returns c = rw c.request_info-request.ensures
+returns c = rw c.request_info.ensures

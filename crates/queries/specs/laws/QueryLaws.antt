@@ -1,7 +1,7 @@
 -- What the queries give, by the cases that the code takes apart.
 use Rattle.std.specs.Prelude.{ℕ, ◌≤◌, ◌<◌, Bool, true, false, ◌||◌, List, Some, None, ◌≡◌, refl, length, get_or}
 use Rattle.std.specs.declared.option.Option.{Option}
-use Rattle.std.proofs.Common.{sym, ◌∙◌, arith, eq-eqb, ne_eqb}
+use Rattle.std.proofs.Common.{sym, ◌∙◌, arith}
 use Rattle.std.proofs.Math.Path.{ap}
 use Rattle.arith.specs.Bounded.{some}
 use Rattle.devices.specs.Arrays.{device_in, state_in}
@@ -23,14 +23,6 @@ use Rattle.state.specs.declared.Device.{Device}
 use Rattle.state.specs.declared.DeviceState.{DeviceState}
 use Rattle.state.specs.declared.DeviceState.TheVariants.{Free, Runs, LockedFor}
 use Rattle.state.specs.declared.Job.{Job}
-
--- the request of area a, on a device that runs one
-module _ (a : ℕ) (s : Segment) (x : DeviceState) (b polls : ℕ) (runs : x ≡ Runs b polls) where
-  pub request_own : b ≡ a → record { device = s.device; start = s.start; length = s.length; polls = polls } ≡ request_on a s x
-  request_own e = rw (runs, eq-eqb b a e)
-
-  pub request_other : (b ≡ a → ⊥) → no_request ≡ request_on a s x
-  request_other e = rw (runs, ne_eqb b a e)
 
 first_false : (s t : Bool) → (s || t) ≡ false → s ≡ false
 first_false true t e = e
