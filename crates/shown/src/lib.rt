@@ -18,23 +18,22 @@ use texts::{free_text, locked_text, push, request_text};
 fn job_of(areas: [Area; 8], area: usize) -> Job
     ensures { result ≡ job_in areas area }
 {
-    if 8 <= area {
-        let fresh = Area::fresh();
-        return fresh.job;
+    if area < 8 {
+        areas[area].job
+    } else {
+        Area::fresh().job
     }
-    let entry = areas[area];
-    entry.job
 }
 
 // Where any area starts: one that the plan has not got at 0.
 fn start_of(places: [AreaRecord; 8], area: usize) -> LogicalAddress
     ensures { result ≡ (area_of places area).start }
 {
-    if 8 <= area {
-        return LogicalAddress(0);
+    if area < 8 {
+        places[area].start
+    } else {
+        LogicalAddress(0)
     }
-    let place = places[area];
-    place.start
 }
 
 // The request of an area that runs: its due segment.
@@ -43,25 +42,19 @@ fn area_request(out: &mut [u8], at: usize, plan: Plan, areas: [Area; 8], area: u
     ensures { (Appended out.old out.new at result (shown_text (shown_on plan (job_in areas) (DeviceState.Runs area 0)))) × (result ≤ at + 84) }
 {
     let job = job_of(areas, area as usize);
-    let task = job.task;
-    let kind = task.kind;
-    let places = plan.areas;
-    let sub_areas = plan.sub_areas;
-    let start = start_of(places, area as usize);
     let segment = segment_from(
-        sub_areas,
+        plan.sub_areas,
         plan.sub_area_count,
-        start,
+        start_of(plan.areas, area as usize),
         area as usize,
-        task,
+        job.task,
         job.processed,
     );
-    let number = kind.number();
     request_text(
         out,
         at,
         area as u64,
-        number as u64,
+        job.task.kind.number() as u64,
         segment.start.0,
         segment.length,
     )
@@ -88,19 +81,15 @@ fn device_texts(
     requires { (at + 336 ≤ length out.old) × (plan.sub_area_count ≤ 32) × (plan.device_count ≤ 4) }
     ensures { (Appended out.old out.new at result (shown_texts (shown_to plan (core_in areas devices) plan.device_count))) × (result ≤ at + 336) }
 {
-    let count = plan.device_count;
     let mut end = at;
-    let mut d = 0;
-    while d < count {
-        let device = devices[d];
-        let state = device.state;
-        end = device_text(out, end, plan, areas, state);
-        d += 1;
+    for device in &devices[..plan.device_count] {
+        end = device_text(out, end, plan, areas, device.state);
     }
     end
 }
 
 // A line of at most 338 bytes, the longest that a session prints.
+#[tactic(auto, using(texts::specs::laws::AppendLaws::append_more), unfolding(crate::specs::Shown::round_line))]
 pub fn devices_line(
     out: &mut [u8],
     at: usize,

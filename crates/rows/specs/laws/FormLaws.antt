@@ -1,6 +1,6 @@
 -- A form written byte by byte: byte i is the next one, and number k.
-use Prim.Native.Nat.{ℕ, zero, suc, ◌+◌, ◌≤◌, ◌<◌}
-use Rattle.std.specs.Prelude.{List, [], ◌∷◌, ◌++◌, ◌≡◌, refl, length, drop, get_or}
+use Prim.Native.Nat.{ℕ, suc, ◌+◌, ◌≤◌, ◌<◌}
+use Rattle.std.specs.Prelude.{List, [], ◌∷◌, ◌++◌, ◌≡◌, length, drop, get_or}
 use Rattle.std.proofs.Math.Numerals.{add-one}
 use native.Mathlib.Omega.{arith}
 use borrow.Author.Tests.{eq-eqb, ne_eqb}
@@ -27,10 +27,3 @@ module _ (form numbers : List ℕ) (i k : ℕ) (h : i < length form) where
 pub none_left : (form numbers : List ℕ) (i k : ℕ) → length form ≤ i → left form numbers i k ≡ []
 unfolding filled
 none_left form numbers i k h = rw (drop_of_length-le form h)
-
--- past the numbers there are zeros
-pub no_number : (l : List ℕ) (k : ℕ) → length l ≤ k → 0 ≡ get_or l k 0
-no_number [] zero h = refl
-no_number [] (suc k) h = refl
-no_number (x ∷ l) zero h = absurd (omega arith)
-no_number (x ∷ l) (suc k) h = no_number l k (omega arith)
