@@ -8,22 +8,21 @@ ghost use Rattle.texts.specs.Texts.{question_line};
 pub fn first_image() -> [u8; 65536]
     ensures { result ≡ replicate 65536 255 }
 {
-    [255u8; 65536]
+    [255; 65536]
 }
 
 // "store 65,536 zeros"
 pub fn first_store() -> [u8; 65536]
     ensures { result ≡ replicate 65536 0 }
 {
-    let zeros = [0u8; 65536];
-    zeros
+    [0; 65536]
 }
 
 // The text of a plan that cannot be read.
 pub fn question_text() -> [u8; 2]
     ensures { result ≡ question_line }
 {
-    [b'?', b'\n']
+    *b"?\n"
 }
 
 // Moves the begun line to the front. Of a line over 4,096 bytes, 4,097 are enough to know it.
@@ -32,13 +31,10 @@ pub fn keep(input: &mut [u8], from: usize, filled: usize) -> usize
     ensures value { result ≡ min 4097 (filled - from) }
     ensures input_after { input.new ≡ take result (drop from input.old) ++ drop result input.old }
 {
-    let mut i: usize = 0;
-    while i < 4097 {
-        if filled - from <= i {
-            return i;
-        }
+    let kept = (filled - from).min(4097);
+    // stays: slices have no `copy_within` here, and no part of one is read while another is lent to be written
+    for i in 0..kept {
         input[i] = input[from + i];
-        i += 1;
     }
-    i
+    kept
 }

@@ -1,15 +1,31 @@
 -- The turns of the loops over bytes, and what a lent part is.
-use Rattle.std.specs.Prelude.{ℕ, ◌+◌, ◌-◌, ◌≤◌, ◌<◌, min, Bool, ◌≡◌, List, [], ◌∷◌, ◌++◌, eqb, length, take, drop, get_or, set, replicate}
-use Rattle.std.proofs.Common.{sym, ap, ◌∙◌, append-nil, arith, add-one, zero-add, add-zero, drop_of_length-le, take-suc, take-suc-set, drop-set-lt, drop-drop, get_or-drop}
+use Rattle.std.specs.Prelude.{ℕ, ◌+◌, ◌-◌, ◌≤◌, ◌<◌, min, Bool, true, false, ◌≡◌, refl, List, [], ◌∷◌, ◌++◌, eqb, length, take, drop, get_or, set}
+use Rattle.std.proofs.Common.{true≢false, sym, ap, ◌∙◌, append-nil, arith, add-one, zero-add, add-zero, drop_of_length-le, take-suc-set, drop-set-lt, drop-drop, get_or-drop, ext_get_or, eq-eqb, eqb-true}
 use Rattle.std.proofs.Math.Nat.{add-sub_cancel_left}
 use Rattle.std.specs.Int.Bits.{bit_and}
-use Rattle.std.proofs.lemmas.List.{replicate-append-replicate}
-use Rattle.arith.specs.Bounded.{every, every_same}
+use Rattle.std.specs.Bool.{Decides}
+use Rattle.std.specs.Cmp.Lexicographic.{pointwise}
+use Rattle.std.proofs.lemmas.Bool.Decides.{Decides-eqb}
+use Rattle.std.proofs.lemmas.Slice.Eq.{slice_eq-Decides}
+use Rattle.arith.specs.Cases.{by_bool}
+use Rattle.arith.specs.Bounded.{every, every_elim, every_intro, every_same}
 use Rattle.arith.specs.Listed.{listed, listed_append, listed_same}
 use Rattle.arith.specs.Parts.{part, put, part_at, length_part}
 
-pub copy_turn : (d s : List ℕ) (i : ℕ) → i < length d → i < length s → take i d ≡ take i s → take (i + 1) (set d i (get_or s i 0)) ≡ take (i + 1) s
-copy_turn d s i h k e = rw (add-one, take-suc-set d i (get_or s i 0) h, take-suc s i 0 k, e)
+-- slices of one length that `==` compares
+pub same_bytes : (xs ys : List ℕ) (r : Bool) → length xs ≡ length ys → r ≡ pointwise eqb xs ys → r ≡ every (λ i. eqb (get_or xs i 0) (get_or ys i 0)) (length xs)
+same_bytes xs ys r long e =
+    by_decision r (slice_eq-Decides Decides-eqb xs ys r e)
+  where
+    all : xs ≡ ys → every (λ i. eqb (get_or xs i 0) (get_or ys i 0)) (length xs) ≡ true
+    all q = every_intro _ (length xs) (λ i l. eq-eqb _ _ (ap (λ l. get_or l i 0) q))
+
+    by_decision : (b : Bool) → Decides b (xs ≡ ys) → b ≡ every (λ i. eqb (get_or xs i 0) (get_or ys i 0)) (length xs)
+    by_decision true q = sym (all (q.0 refl))
+    by_decision false q =
+        by_bool (every (λ i. eqb (get_or xs i 0) (get_or ys i 0)) (length xs))
+        (λ t. absurd (true≢false (sym (q.1 (ext_get_or 0 xs ys long (λ i l. eqb-true _ _ (every_elim _ (length xs) t i l)))))))
+        (λ f. sym f)
 
 -- one value more of a map
 listed_more : (f : ℕ → ℕ) (i : ℕ) → listed f 0 (i + 1) ≡ listed f 0 i ++ (f i ∷ [])
@@ -28,9 +44,6 @@ map_turn f d z i h e g = (
 pub still_at : (d z : List ℕ) (i : ℕ) → drop i d ≡ drop i z → get_or d i 0 ≡ get_or z i 0
 still_at d z i g =
     ap (λ k. get_or d k 0) (sym (add-zero i)) ∙ sym (get_or-drop i d 0 0) ∙ ap (λ l. get_or l 0 0) g ∙ get_or-drop i z 0 0 ∙ ap (λ k. get_or z k 0) (add-zero i)
-
-pub fill_turn : (d : List ℕ) (b i : ℕ) → i < length d → take i d ≡ replicate i b → take (i + 1) (set d i b) ≡ replicate (i + 1) b
-fill_turn d b i h e = rw (add-one, take-suc-set d i b h, e) (replicate-append-replicate i 1 b ∙ rw add-one)
 
 -- what a lent part is, and what the whole is once the part is back: `&s[q..q + n]`
 pub part_is : (q n : ℕ) (l : List ℕ) → take (q + n - q) (drop q l) ≡ part q n l

@@ -11,71 +11,18 @@ ghost use Rattle.transfer.specs.PartLaws.{anded};
 pub fn least(a: usize, b: usize) -> usize
     ensures { result ≡ min a b }
 {
-    if a < b {
-        return a;
-    }
-    b
-}
-
-// The loops, over whole slices.
-fn copy_all(dst: &mut [u8], src: &[u8])
-    requires { length src.now ≡ length dst.old }
-    ensures { dst.new ≡ src.now }
-{
-    let mut i = 0;
-    while i < src.len() {
-        dst[i] = src[i];
-        i += 1;
-    }
+    a.min(b)
 }
 
 // Each byte of dst becomes the bits that it has in common with that of src, as far as both go.
+// stays: of a slice written through `iter_mut().zip(..)` the proof of `anded` knows no byte, so that the index is written here.
 fn and_all(dst: &mut [u8], src: &[u8])
     ensures { dst.new ≡ anded dst.old src.now }
 {
-    let n = least(dst.len(), src.len());
-    let mut i = 0;
-    while i < n {
-        dst[i] = dst[i] & src[i];
-        i += 1;
+    let n = dst.len().min(src.len());
+    for i in 0..n {
+        dst[i] &= src[i];
     }
-}
-
-fn fill_all(dst: &mut [u8], b: u8)
-    ensures { dst.new ≡ replicate (length dst.old) b }
-{
-    let mut i = 0;
-    while i < dst.len() {
-        dst[i] = b;
-        i += 1;
-    }
-}
-
-fn same_all(a: &[u8], b: &[u8]) -> bool
-    requires { length a.now ≡ length b.now }
-    ensures { result ≡ every (λ i. eqb (get_or a.now i 0) (get_or b.now i 0)) (length a.now) }
-{
-    let mut i = 0;
-    while i < a.len() {
-        if a[i] != b[i] {
-            return false;
-        }
-        i += 1;
-    }
-    true
-}
-
-fn blank_all(a: &[u8]) -> bool
-    ensures { result ≡ every (λ i. eqb (get_or a.now i 0) 255) (length a.now) }
-{
-    let mut i = 0;
-    while i < a.len() {
-        if a[i] != 255 {
-            return false;
-        }
-        i += 1;
-    }
-    true
 }
 
 // The part of the job store that a driver gets: n bytes from `from` on, never a copy.
@@ -83,8 +30,7 @@ pub fn window_part<'a>(store: &'a [u8], from: usize, n: usize) -> &'a [u8]
     requires { from + n ≤ length store.now }
     ensures { (result.now ≡ part from n store.now) × (length result.now ≡ n) }
 {
-    let e = from + n;
-    &store[from..e]
+    &store[from..from + n]
 }
 
 // All of src goes to dst at p: for a write the window's part to the image, for a read the image's part to the window.
@@ -92,8 +38,7 @@ pub fn write_part(dst: &mut [u8], p: usize, src: &[u8])
     requires { p + length src.now ≤ length dst.old }
     ensures { dst.new ≡ put p src.now dst.old }
 {
-    let e = p + src.len();
-    copy_all(&mut dst[p..e], src);
+    dst[p..p + src.len()].copy_from_slice(src);
 }
 
 // All of src is and-ed into dst at p.
@@ -101,8 +46,7 @@ pub fn and_part(dst: &mut [u8], p: usize, src: &[u8])
     requires { p + length src.now ≤ length dst.old }
     ensures { dst.new ≡ put p (listed (λ i. bit_and (get_or dst.old (p + i) 0) (get_or src.now i 0)) 0 (length src.now)) dst.old }
 {
-    let e = p + src.len();
-    and_all(&mut dst[p..e], src);
+    and_all(&mut dst[p..p + src.len()], src);
 }
 
 // n bytes of the image at p go to the window at q.
@@ -110,16 +54,14 @@ pub fn read_part(store: &mut [u8], q: usize, image: &[u8], p: usize, n: usize)
     requires { (q + n ≤ length store.old) × (p + n ≤ length image.now) }
     ensures { store.new ≡ put q (part p n image.now) store.old }
 {
-    let e = p + n;
-    write_part(store, q, &image[p..e]);
+    write_part(store, q, &image[p..p + n]);
 }
 
 pub fn erase_part(image: &mut [u8], p: usize, n: usize)
     requires { p + n ≤ length image.old }
     ensures { image.new ≡ put p (replicate n 255) image.old }
 {
-    let e = p + n;
-    fill_all(&mut image[p..e], 255);
+    image[p..p + n].fill(255);
 }
 
 // Are the bytes of the image at p those of the window's part?
@@ -127,8 +69,7 @@ pub fn same_part(image: &[u8], p: usize, window: &[u8]) -> bool
     requires { p + length window.now ≤ length image.now }
     ensures { result ≡ every (λ i. eqb (get_or image.now (p + i) 0) (get_or window.now i 0)) (length window.now) }
 {
-    let e = p + window.len();
-    same_all(&image[p..e], window)
+    &image[p..p + window.len()] == window
 }
 
 // Are the n bytes of the image at p all 255?
@@ -136,6 +77,5 @@ pub fn blank_part(image: &[u8], p: usize, n: usize) -> bool
     requires { p + n ≤ length image.now }
     ensures { result ≡ every (λ i. eqb (get_or image.now (p + i) 0) 255) n }
 {
-    let e = p + n;
-    blank_all(&image[p..e])
+    image[p..p + n].iter().all(|byte| *byte == 255)
 }

@@ -5,19 +5,18 @@ use Rattle.wear.proofs.laws.WearLaws.{add_set, add_left, add_more}
 use Rattle.wear.proofs.add_worn.Goals as goal
 use Rattle.wear.proofs.add_worn.Goals.{then-place-lt32, else-place-lt32}
 
-pub loop-d-init : goal.loop-d-init
+pub loop-one-init : goal.loop-one-init
 unfolding add_worn
-loop-d-init c = (omega arith, refl)
+loop-one-init c = refl
 
-pub loop-d-preserved : goal.loop-d-preserved
-loop-d-preserved c = let l = c.loop-d in (
-  omega arith,
-  (elim c.if-place-lt32.branch [
-    | then-place-lt32 w ↦ add_set _ _ _ _ l.invariant.1 w.if-place-lt32.true _ w.worn_to.ensures w.wear-is
-    | else-place-lt32 w ↦ add_left _ _ _ _ l.invariant.1 w.if-place-lt32.false w.wear-is
-  ])
-      ∙ add_more _ _ _,
-)
+pub loop-one-preserved : goal.loop-one-preserved
+loop-one-preserved c =
+    let l = c.loop-one in
+    (elim c.if-place-lt32.branch [
+      | then-place-lt32 w ↦ add_set _ _ _ _ l.invariant w.if-place-lt32.true _ w.worn_to.ensures w.wear-is
+      | else-place-lt32 w ↦ add_left _ _ _ _ l.invariant w.if-place-lt32.false w.wear-is
+    ])
+    ∙ add_more _ _ _
 
 pub returns : goal.returns
-returns c = c.loop-d.invariant.1 ∙ ap (λ n. add_worn c.args.worn n c.args.wear.now) (omega arith)
+returns c = c.loop-one.invariant ∙ ap (λ n. add_worn c.args.worn n c.args.wear.now) (omega arith)

@@ -1,10 +1,6 @@
-use Prim.Native.Nat.{◌-◌, ◌≤◌}
 use mathlib.Core.Path.{◌≡◌}
 use Rattle.wear.specs.Wear.{add_worn}
 use Rattle.wear.proofs.add_worn.Given as goal
 
-abbrev pub invariant-loop-d : goal.invariant-loop-d
-invariant-loop-d l = (l.d ≤ 4) × (l.wear ≡ add_worn l.worn l.d l.initial.wear)
-
-abbrev pub decreases-loop-d : goal.decreases-loop-d
-decreases-loop-d l = 4 - l.d
+abbrev pub invariant-loop-one : goal.invariant-loop-one
+invariant-loop-one l = l.wear ≡ add_worn l.fn.worn l.one-index l.initial.wear

@@ -1,7 +1,8 @@
 -- The charge is the least number of whole millionths, and fits 64 bits; a sum that sticks is the sum without a limit, or the limit.
 use Rattle.std.specs.Prelude.{ℕ, ◌+◌, ◌*◌, ◌/◌, ◌%◌, ◌≤◌, ◌<◌, min, List, ◌≡◌, get_or, set}
+use Rattle.std.specs.Int.{div_ceil}
 use Rattle.std.proofs.Common.{◌∙◌, div-lt_iff_lt-mul, add-one, arith, ne_eqb, eq-eqb, lt-ltb, le-ltb}
-use Rattle.std.proofs.Math.Nat.{div-le_of_le-mul, div-lt_self, zero-mod, mod-one, div-add-mod', lt-mul-div-succ, mul-mod_left, mul_comm}
+use Rattle.std.proofs.Math.Nat.{div-le_of_le-mul, div-add-mod', lt-mul-div-succ, mul-mod_left, mul_comm}
 use Rattle.arith.specs.Cases.{by_eqb}
 use Rattle.wear.specs.Wear.{most_wear, worn_to, add_one, add_worn, rounded_up, charge_of, Millionths}
 use Rattle.wear.specs.declared.Worn.{Worn}
@@ -26,12 +27,10 @@ module _ (n d : ℕ) (some : 1 ≤ d) where
       less : (n % d ≡ 0 → ⊥) → n < c * d
       less e = by_eqb n (c * d) (λ _ f. absurd (e (rw f (mul-mod_left c d)))) (λ _ f. omega arith)
 
-  -- where it is not the quotient it is no larger than n, so that it fits where n does
-  pub up_fits : (n % d ≡ 0 → ⊥) → n / d + 1 ≤ n
-  up_fits e =
-      let n-some : 0 < n = by_eqb n 0 (λ _ f. absurd (e (rw f (zero-mod d)))) (λ _ f. omega arith) in
-      let d-more : 1 < d = by_eqb d 1 (λ _ f. absurd (e (rw f (mod-one n)))) (λ _ f. omega arith) in
-      omega (arith, div-lt_self {n = n} {k = d} n-some d-more)
+-- it is what `div_ceil` gives
+pub up_is : (n d : ℕ) → div_ceil n d ≡ rounded_up n d
+unfolding rounded_up
+up_is n d = by_eqb (n % d) 0 (λ q e. rw (q, e) (omega arith)) (λ q e. rw q (omega arith))
 
 -- the charge of a sub-area with a record
 pub charge_least : (sum endurance sectorCount : ℕ) → 1 ≤ endurance * sectorCount → Millionths sum (endurance * sectorCount) (charge_of sum endurance sectorCount)
