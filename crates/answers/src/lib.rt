@@ -43,22 +43,9 @@ pub fn take_answer(
     ensures image_after { image.new ≡ (turn_memory area_record device_record entry due answer (memory_of image.old store.old) device.state).image }
     ensures store_after { store.new ≡ (turn_memory area_record device_record entry due answer (memory_of image.old store.old) device.state).store }
 {
-    let state = device.state;
-    let suspended = device.suspended;
-    match state {
-        DeviceState::Free => Turn {
-            area: entry,
-            due,
-            device,
-        },
-        DeviceState::LockedFor(_) => Turn {
-            area: entry,
-            due,
-            device,
-        },
+    match device.state {
         DeviceState::Runs { area, polls } => {
             let job = entry.job;
-            let waits = entry.waits;
             let start = area_record.start;
             let next = next_segment(answer, sub_areas, count, start, area as usize, job, due);
             let taken = take_request(
@@ -74,35 +61,37 @@ pub fn take_answer(
                 image,
                 store,
             );
-            let job = taken.job;
-            let due = taken.due;
-            let state = taken.state;
             Turn {
-                area: Area { job, waits },
-                due,
-                device: Device { state, suspended },
+                area: Area {
+                    job: taken.job,
+                    ..entry
+                },
+                due: taken.due,
+                device: Device {
+                    state: taken.state,
+                    ..device
+                },
             }
         }
+        DeviceState::Free | DeviceState::LockedFor(_) => Turn {
+            area: entry,
+            due,
+            device,
+        },
     }
 }
 
 fn is_done(answer: DeviceAnswer) -> bool
     ensures { result ≡ is_done answer }
 {
-    match answer {
-        DeviceAnswer::Pending => false,
-        DeviceAnswer::Done => true,
-        DeviceAnswer::Failed(_) => false,
-    }
+    matches!(answer, DeviceAnswer::Done)
 }
 
 // Do the job's requests wear? Those of a cancelled job do too.
 fn wears(job: Job) -> bool
     ensures { result ≡ is_erase job.task.kind }
 {
-    let task = job.task;
-    let kind = task.kind;
-    is_erase(kind)
+    is_erase(job.task.kind)
 }
 
 // What a device's answer wears, before it is taken: the sectors of its request, if that is an erase and done. Job and due segment are those of the area that
@@ -111,18 +100,10 @@ pub fn worn_by(state: DeviceState, answer: DeviceAnswer, job: Job, due: Segment)
     ensures { result ≡ worn_on state answer job.task.kind due }
 {
     match state {
-        DeviceState::Free => Worn::none(),
-        DeviceState::LockedFor(_) => Worn::none(),
-        DeviceState::Runs { area: _, polls: _ } => {
-            if !is_done(answer) {
-                return Worn::none();
-            }
-            if !wears(job) {
-                return Worn::none();
-            }
-            let sub_area = due.sub_area as usize;
-            let sectors = sectors_in(due.length, due.sector);
-            Worn { sub_area, sectors }
-        }
+        DeviceState::Runs { .. } if is_done(answer) && wears(job) => Worn {
+            sub_area: due.sub_area as usize,
+            sectors: sectors_in(due.length, due.sector),
+        },
+        DeviceState::Free | DeviceState::LockedFor(_) | DeviceState::Runs { .. } => Worn::none(),
     }
 }

@@ -8,3 +8,4 @@ pub mod Parts
 pub mod Listed
 pub mod FirstNo
 pub mod InLists
+pub mod Mapped

@@ -12,70 +12,58 @@ use jobs::ranks::{age_of, ranks_above};
 use plan::records::AreaRecord;
 use state::{Area, DeviceState, Waits};
 
-// What a pending job waits for.
+// What a pending job waits for. It waits for nothing where the device that it needs is free.
 #[derive(Clone, Copy)]
 pub enum Wait {
     Own,
     Above,
     Below,
     Locked,
-    Nothing,
 }
 
 fn stick(count: u32) -> u32
     ensures { result ≡ stick count }
 {
-    if count == 4294967295 {
-        return count;
-    }
-    count + 1
+    count.saturating_add(1)
 }
 
-fn counted(wait: Wait, waits: Waits) -> Waits
+fn counted(wait: Option<Wait>, waits: Waits) -> Waits
     ensures { result ≡ counted (wait_is wait) waits }
 {
     match wait {
-        Wait::Own => Waits {
+        None => waits,
+        Some(Wait::Own) => Waits {
             own: stick(waits.own),
-            above: waits.above,
-            below: waits.below,
-            locked: waits.locked,
+            ..waits
         },
-        Wait::Above => Waits {
-            own: waits.own,
+        Some(Wait::Above) => Waits {
             above: stick(waits.above),
-            below: waits.below,
-            locked: waits.locked,
+            ..waits
         },
-        Wait::Below => Waits {
-            own: waits.own,
-            above: waits.above,
+        Some(Wait::Below) => Waits {
             below: stick(waits.below),
-            locked: waits.locked,
+            ..waits
         },
-        Wait::Locked => Waits {
-            own: waits.own,
-            above: waits.above,
-            below: waits.below,
+        Some(Wait::Locked) => Waits {
             locked: stick(waits.locked),
+            ..waits
         },
-        Wait::Nothing => waits,
     }
 }
 
+#[tactic(auto, using(crate::specs::laws::Waits::no_priority))]
 fn priority_of(records: [AreaRecord; 8], area: usize) -> u16
     ensures { result ≡ (area_of records area).priority }
 {
-    if 8 <= area {
-        return 0;
+    match records.get(area) {
+        Some(record) => record.priority,
+        None => 0,
     }
-    let record = records[area];
-    record.priority
 }
 
 // An area behind a request of another, or its own.
 fn wait_behind(records: [AreaRecord; 8], ages: [u8; 8], area: u8, runner: u8) -> Wait
-    ensures { wait_is result ≡ wait_behind (rank_layout records ages) area runner }
+    ensures { wait_is (Some result) ≡ wait_behind (rank_layout records ages) area runner }
 {
     if runner == area {
         return Wait::Own;
@@ -90,16 +78,13 @@ fn wait_behind(records: [AreaRecord; 8], ages: [u8; 8], area: u8, runner: u8) ->
     Wait::Below
 }
 
-fn wait_on(records: [AreaRecord; 8], ages: [u8; 8], area: u8, state: DeviceState) -> Wait
+fn wait_on(records: [AreaRecord; 8], ages: [u8; 8], area: u8, state: DeviceState) -> Option<Wait>
     ensures { wait_is result ≡ wait_on (rank_layout records ages) area state }
 {
     match state {
-        DeviceState::Free => Wait::Nothing,
-        DeviceState::LockedFor(_) => Wait::Locked,
-        DeviceState::Runs {
-            area: runner,
-            polls: _,
-        } => wait_behind(records, ages, area, runner),
+        DeviceState::Free => None,
+        DeviceState::LockedFor(_) => Some(Wait::Locked),
+        DeviceState::Runs { area: runner, .. } => Some(wait_behind(records, ages, area, runner)),
     }
 }
 
@@ -114,16 +99,10 @@ pub fn closed_area(
 ) -> Area
     ensures { result ≡ closed_area records ages number before after state }
 {
-    let job = after.job;
-    let waits = before.waits;
-    let old = before.job;
-    if !is_pending(old) {
-        return Area { job, waits };
-    }
-    if !is_pending(job) {
-        return Area { job, waits };
-    }
-    let wait = wait_on(records, ages, number, state);
-    let waits = counted(wait, waits);
-    Area { job, waits }
+    let waits = if is_pending(before.job) && is_pending(after.job) {
+        counted(wait_on(records, ages, number, state), before.waits)
+    } else {
+        before.waits
+    };
+    Area { waits, ..after }
 }

@@ -12,78 +12,54 @@ use jobs::{cancelled, ended};
 use memory::JobResult;
 use plan::records::Plan;
 use segment::segment_at;
-use state::{Device, DeviceState, Job, Suspended};
+use state::{Device, DeviceState, Job, SuspendedErase};
 
 // A number from the plan may lie past the devices that a manager has: there nothing runs, is suspended or locked.
+#[tactic(auto, using(crate::specs::laws::ArrayLaws::device_past))]
 fn device_on(devices: [Device; 4], device: usize) -> Device
     ensures { result ≡ device_in devices device }
 {
-    if 4 <= device {
-        return Device::free();
+    match devices.get(device) {
+        Some(entry) => *entry,
+        None => Device::free(),
     }
-    devices[device]
 }
 
 // What a device does.
+#[tactic(auto, using(crate::specs::laws::ArrayLaws::state_past))]
 pub fn state_on(devices: [Device; 4], device: usize) -> DeviceState
     ensures { result ≡ state_in devices device }
 {
-    if 4 <= device {
-        return DeviceState::Free;
+    match devices.get(device) {
+        Some(entry) => entry.state,
+        None => DeviceState::Free,
     }
-    let entry = devices[device];
-    entry.state
 }
 
 fn runs_for(state: DeviceState, area: usize) -> bool
     ensures { result ≡ runs_for area state }
 {
-    match state {
-        DeviceState::Free => false,
-        DeviceState::Runs {
-            area: runner,
-            polls: _,
-        } => runner as usize == area,
-        DeviceState::LockedFor(_) => false,
-    }
+    matches!(state, DeviceState::Runs { area: runner, .. } if runner as usize == area)
 }
 
-fn suspended_for(suspended: Suspended, area: usize) -> bool
+fn suspended_for(suspended: Option<SuspendedErase>, area: usize) -> bool
     ensures { result ≡ kept_for area suspended }
 {
-    match suspended {
-        Suspended::Nothing => false,
-        Suspended::Erase {
-            area: runner,
-            polls: _,
-        } => runner as usize == area,
-    }
+    matches!(suspended, Some(erase) if erase.area as usize == area)
 }
 
 // Does the device run a request of the area, or keep it suspended?
 fn holds(device: Device, area: usize) -> bool
     ensures { result ≡ holds area device }
 {
-    let state = device.state;
-    if runs_for(state, area) {
-        return true;
-    }
-    let suspended = device.suspended;
-    suspended_for(suspended, area)
+    runs_for(device.state, area) || suspended_for(device.suspended, area)
 }
 
 // Does a device hold a request of the area? Job info (`queries`) asks it too.
 pub fn held_somewhere(devices: [Device; 4], area: usize) -> bool
     ensures { result ≡ some (λ d. holds area (device_in devices d)) 4 }
 {
-    let mut d = 0;
-    while d < 4 {
-        if holds(devices[d], area) {
-            return true;
-        }
-        d += 1;
-    }
-    false
+    devices.iter().any(|device| holds(*device, area))
 }
 
 // Does the device that the area's job needs hold its request?
@@ -91,8 +67,7 @@ fn request_held(plan: Plan, job: Job, devices: [Device; 4], area: usize) -> bool
     requires { (plan.sub_area_count ≤ 32) × (area < 8) }
     ensures { result ≡ holds area (device_in devices (need (layout_of plan) area job)) }
 {
-    let task = job.task;
-    let segment = segment_at(plan, area, task, job.processed);
+    let segment = segment_at(plan, area, job.task, job.processed);
     let device = device_on(devices, segment.device as usize);
     holds(device, area)
 }
@@ -102,22 +77,14 @@ fn area_held(plan: Plan, job: Job, devices: [Device; 4], area: usize) -> bool
     requires { (plan.sub_area_count ≤ 32) × (area < 8) }
     ensures { result ≡ holds area (device_in devices (need (layout_of plan) area job)) }
 {
-    if !held_somewhere(devices, area) {
-        return false;
-    }
-    request_held(plan, job, devices, area)
+    held_somewhere(devices, area) && request_held(plan, job, devices, area)
 }
 
 // Is the device locked for the area? A release (`questions`) asks it.
 pub fn holds_lock(devices: [Device; 4], device: usize, area: usize) -> bool
     ensures { result ≡ holds_lock area (state_in devices device) }
 {
-    let state = state_on(devices, device);
-    match state {
-        DeviceState::Free => false,
-        DeviceState::Runs { area: _, polls: _ } => false,
-        DeviceState::LockedFor(holder) => area == holder as usize,
-    }
+    matches!(state_on(devices, device), DeviceState::LockedFor(holder) if area == holder as usize)
 }
 
 // The area's job after a cancel: over at once, unless its request runs or is suspended.

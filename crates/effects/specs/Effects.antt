@@ -1,10 +1,11 @@
 -- What an answer does, as the code says it.
-use Rattle.std.specs.Prelude.{ℕ, ◌+◌, ◌≤◌, List}
+use Rattle.std.specs.Prelude.{ℕ, ◌+◌, ◌≤◌, List, length}
 use Rattle.std.proofs.Common.{arith}
 use Rattle.memory.specs.declared.JobType.{JobType}
 use Rattle.memory.specs.declared.JobType.TheVariants.{NoJob, Write, Read, Compare, Erase, BlankCheck, Lock}
 use Rattle.rules.specs.Machine.{Verdict, goes_on, finished, differs, failed}
 use Rattle.rules.specs.Memory.{Memory}
+use Rattle.effects.specs.declared.Request.{Request}
 use Rattle.effects.specs.declared.Outcome.{Outcome}
 use Rattle.effects.specs.declared.Outcome.TheVariants as Outcomes
 
@@ -26,6 +27,10 @@ lent_end Erase w n = 0
 lent_end BlankCheck w n = 0
 lent_end Lock w n = 0
 lent_end NoJob w n = 0
+
+-- a request's bytes are within the lent memory
+abbrev pub Within : Request → List ℕ → List ℕ → Type 0
+Within r image store = (r.at + r.n ≤ length image) × (lent_end r.kind r.window r.n ≤ length store)
 
 pub lent_less : (k : JobType) (w i n : ℕ) → i ≤ n → lent_end k w i ≤ lent_end k w n
 lent_less Write w i n h = omega arith

@@ -1,5 +1,5 @@
 -- The structs that cross to C and Rust, with the papers' numbers for enums.
-use Rattle.std.specs.Prelude.{ℕ, List, ◌≡◌, get_or}
+use Rattle.std.specs.Prelude.{ℕ, List, ◌≡◌, get_or, Option, None, Some}
 use Rattle.arith.specs.Tables.{table}
 use Rattle.manager.specs.Load.{loaded_manager}
 use Rattle.manager.specs.declared.Manager.{Manager}
@@ -11,8 +11,7 @@ use Rattle.state.specs.declared.Area.{Area}
 use Rattle.state.specs.declared.Device.{Device}
 use Rattle.state.specs.declared.DeviceState.{DeviceState}
 use Rattle.state.specs.declared.DeviceState.TheVariants.{Free, Runs, LockedFor}
-use Rattle.state.specs.declared.Suspended.{Suspended}
-use Rattle.state.specs.declared.Suspended.TheVariants as Kept
+use Rattle.state.specs.declared.SuspendedErase.{SuspendedErase}
 use Rattle.interface.specs.declared.JobView.{JobView}
 use Rattle.interface.specs.declared.AreaView.{AreaView}
 use Rattle.interface.specs.declared.StateView.{StateView}
@@ -45,9 +44,9 @@ state_view Free = no_state_view
 state_view (Runs a n) = record { state = 1; area = a; polls = n }
 state_view (LockedFor a) = record { state = 2; area = a; polls = 0 }
 
-abbrev pub kept_view : Suspended → StateView
-kept_view Kept.Nothing = no_state_view
-kept_view (Kept.Erase a n) = record { state = 1; area = a; polls = n }
+abbrev pub kept_view : Option SuspendedErase → StateView
+kept_view None = no_state_view
+kept_view (Some s) = record { state = 1; area = s.area; polls = s.polls }
 
 abbrev pub device_view : Device → DeviceView
 device_view d = record { does = state_view d.state; suspended = kept_view d.suspended }

@@ -14,7 +14,7 @@ use manager::Manager;
 use memory::{JobResult, LogicalAddress};
 use plan::records::Plan;
 use session::play_all;
-use state::{Area, Device, DeviceState, Job, Suspended, Waits};
+use state::{Area, Device, DeviceState, Job, SuspendedErase, Waits};
 
 #[repr(C)]
 #[derive(Clone, Copy)]
@@ -111,13 +111,13 @@ impl From<DeviceState> for StateView {
     }
 }
 
-impl From<Suspended> for StateView {
+impl From<Option<SuspendedErase>> for StateView {
     ghost from_gives = { λ suspended view. view ≡ kept_view suspended };
 
-    fn from(suspended: Suspended) -> StateView {
+    fn from(suspended: Option<SuspendedErase>) -> StateView {
         match suspended {
-            Suspended::Nothing => StateView::default(),
-            Suspended::Erase { area, polls } => StateView {
+            None => StateView::default(),
+            Some(SuspendedErase { area, polls }) => StateView {
                 state: 1,
                 area,
                 polls,

@@ -44,8 +44,8 @@ pub fn ages_after(ages: [u8; 8], area: usize) -> [u8; 8]
 pub fn age_of(ages: [u8; 8], area: u8) -> u8
     ensures { result ≡ age_in ages area }
 {
-    if 8 <= area {
-        return area;
+    match ages.get(area as usize) {
+        Some(age) => *age,
+        None => area,
     }
-    ages[area as usize]
 }

@@ -5,64 +5,36 @@ ghost use Rattle.std.specs.Prelude.{◌&&◌, ◌≡◌, ◌≤◌, ◌<◌, eqb
 ghost use Rattle.arith.specs.Cases.{pick};
 ghost use Rattle.rules.specs.Machine.{is_pending, displaces};
 ghost use Rattle.picks.specs.laws.Picks.{better_of, best_to, ready_in, free_slot, running_slot, slot_of, is_taken, chosen_in, start_of, start_free, erase_with, start_with};
-ghost use Rattle.picks.specs.declared.Best.TheVariants.{Nobody};
 
 use jobs::ranks::ranks_above;
 use jobs::{ended, is_pending};
 use memory::{JobResult, JobType};
 use plan::records::AreaRecord;
 use segment::{is_erase, is_lock};
-use state::{Area, Device, DeviceState, Job, Suspended};
+use state::{Area, Device, DeviceState, Job, SuspendedErase};
 
-// The best of the jobs looked at so far.
+// An area whose job a device can pick, with what it ranks by.
 #[derive(Clone, Copy)]
-pub enum Best {
-    Nobody,
-    Area { area: u8, priority: u16, age: u8 },
+pub struct Ranked {
+    pub area: u8,
+    pub priority: u16,
+    pub age: u8,
 }
 
-fn better(area: u8, priority: u16, age: u8, best: Best) -> Best
-    ensures { result ≡ better_of area priority age best }
+// The better of an area and the best of those looked at so far.
+fn better(next: Ranked, best: Option<Ranked>) -> Option<Ranked>
+    ensures { result ≡ better_of next best }
 {
     match best {
-        Best::Nobody => Best::Area {
-            area,
-            priority,
-            age,
-        },
-        Best::Area {
-            area: _,
-            priority: other_priority,
-            age: other_age,
-        } => {
-            if ranks_above(priority, age, other_priority, other_age) {
-                return Best::Area {
-                    area,
-                    priority,
-                    age,
-                };
-            }
-            best
-        }
+        Some(other) if !ranks_above(next.priority, next.age, other.priority, other.age) => best,
+        _ => Some(next),
     }
-}
-
-fn better_if(ready: bool, area: u8, priority: u16, age: u8, best: Best) -> Best
-    ensures { result ≡ pick ready (better_of area priority age best) best }
-{
-    if !ready {
-        return best;
-    }
-    better(area, priority, age, best)
 }
 
 fn is_ready(job: Job, needed: u8, device: usize) -> bool
     ensures { result ≡ (is_pending job && eqb needed device) }
 {
-    if !is_pending(job) {
-        return false;
-    }
-    needed as usize == device
+    is_pending(job) && needed as usize == device
 }
 
 // The highest ranked of the first areas that are ready for the device.
@@ -73,19 +45,20 @@ fn best_area(
     needs: [u8; 8],
     areas: [Area; 8],
     device: usize,
-) -> Best
+) -> Option<Ranked>
     requires { count ≤ 8 }
     ensures { result ≡ best_to records ages (ready_in needs areas device) count }
 {
-    let mut best = Best::Nobody;
-    let mut a = 0;
-    while a < count {
-        let entry = areas[a];
-        let job = entry.job;
-        let record = records[a];
-        let ready = is_ready(job, needs[a], device);
-        best = better_if(ready, a as u8, record.priority, ages[a], best);
-        a += 1;
+    let mut best = None;
+    for a in 0..count {
+        if is_ready(areas[a].job, needs[a], device) {
+            let next = Ranked {
+                area: a as u8,
+                priority: records[a].priority,
+                age: ages[a],
+            };
+            best = better(next, best);
+        }
     }
     best
 }
@@ -99,30 +72,22 @@ pub enum Slot {
     Erase { area: u8, polls: u16 },
 }
 
-fn free_slot(suspended: Suspended) -> Slot
+fn free_slot(suspended: Option<SuspendedErase>) -> Slot
     ensures { result ≡ free_slot suspended }
 {
     match suspended {
-        Suspended::Nothing => Slot::Free,
-        Suspended::Erase { area, polls } => Slot::Erase { area, polls },
+        None => Slot::Free,
+        Some(SuspendedErase { area, polls }) => Slot::Erase { area, polls },
     }
 }
 
 // A device that can suspend runs this request, of a job of that type.
-fn running_slot(kind: JobType, area: u8, polls: u16, suspended: Suspended) -> Slot
+fn running_slot(kind: JobType, area: u8, polls: u16, suspended: Option<SuspendedErase>) -> Slot
     ensures { result ≡ running_slot kind area polls suspended }
 {
     match suspended {
-        Suspended::Nothing => {
-            if 8 <= area {
-                return Slot::Taken;
-            }
-            if !is_erase(kind) {
-                return Slot::Taken;
-            }
-            Slot::Erase { area, polls }
-        }
-        Suspended::Erase { area: _, polls: _ } => Slot::Taken,
+        None if area < 8 && is_erase(kind) => Slot::Erase { area, polls },
+        _ => Slot::Taken,
     }
 }
 
@@ -130,31 +95,19 @@ fn running_slot(kind: JobType, area: u8, polls: u16, suspended: Suspended) -> Sl
 pub fn slot_on(suspends: bool, running: Area, device: Device) -> Slot
     ensures { result ≡ slot_of suspends running.job.task.kind device.state device.suspended }
 {
-    let state = device.state;
-    let suspended = device.suspended;
-    match state {
-        DeviceState::Free => free_slot(suspended),
-        DeviceState::LockedFor(_) => Slot::Taken,
-        DeviceState::Runs { area, polls } => {
-            if !suspends {
-                return Slot::Taken;
-            }
-            let job = running.job;
-            let task = job.task;
-            let kind = task.kind;
-            running_slot(kind, area, polls, suspended)
+    match device.state {
+        DeviceState::Free => free_slot(device.suspended),
+        DeviceState::Runs { area, polls } if suspends => {
+            running_slot(running.job.task.kind, area, polls, device.suspended)
         }
+        _ => Slot::Taken,
     }
 }
 
 fn is_taken(slot: Slot) -> bool
     ensures { result ≡ is_taken slot }
 {
-    match slot {
-        Slot::Taken => true,
-        Slot::Free => false,
-        Slot::Erase { area: _, polls: _ } => false,
-    }
+    matches!(slot, Slot::Taken)
 }
 
 // The choice for what a device has.
@@ -166,33 +119,24 @@ pub fn pick_area(
     needs: [u8; 8],
     areas: [Area; 8],
     device: usize,
-) -> Best
+) -> Option<Ranked>
     requires { count ≤ 8 }
-    ensures { result ≡ pick (is_taken slot) Nobody (best_to records ages (ready_in needs areas device) count) }
+    ensures { result ≡ pick (is_taken slot) None (best_to records ages (ready_in needs areas device) count) }
 {
     if is_taken(slot) {
-        return Best::Nobody;
+        return None;
     }
     best_area(records, ages, count, needs, areas, device)
 }
 
 // The area chosen; 0 where none is that a manager has.
-pub fn chosen(best: Best) -> usize
+pub fn chosen(best: Option<Ranked>) -> usize
     ensures value { result ≡ chosen_in best }
     ensures upper_bound { result < 8 }
 {
     match best {
-        Best::Nobody => 0,
-        Best::Area {
-            area,
-            priority: _,
-            age: _,
-        } => {
-            if 8 <= area {
-                return 0;
-            }
-            area as usize
-        }
+        Some(choice) if choice.area < 8 => choice.area as usize,
+        _ => 0,
     }
 }
 
@@ -207,39 +151,36 @@ pub struct Start {
 fn start_job(area: u8, entry: Area, device: Device) -> Start
     ensures { result ≡ start_of area entry device }
 {
-    let suspended = device.suspended;
-    let job = entry.job;
-    let task = job.task;
-    let kind = task.kind;
-    if is_lock(kind) {
-        let waits = entry.waits;
-        let job = ended(job, JobResult::OK);
-        let state = DeviceState::LockedFor(area);
+    if is_lock(entry.job.task.kind) {
         return Start {
-            area: Area { job, waits },
-            device: Device { state, suspended },
+            area: Area {
+                job: ended(entry.job, JobResult::OK),
+                ..entry
+            },
+            device: Device {
+                state: DeviceState::LockedFor(area),
+                ..device
+            },
         };
     }
-    let state = DeviceState::Runs { area, polls: 0 };
     Start {
         area: entry,
-        device: Device { state, suspended },
+        device: Device {
+            state: DeviceState::Runs { area, polls: 0 },
+            ..device
+        },
     }
 }
 
-fn start_free(best: Best, entry: Area, device: Device) -> Start
+fn start_free(best: Option<Ranked>, entry: Area, device: Device) -> Start
     ensures { result ≡ start_free best entry device }
 {
     match best {
-        Best::Nobody => Start {
+        None => Start {
             area: entry,
             device,
         },
-        Best::Area {
-            area,
-            priority: _,
-            age: _,
-        } => start_job(area, entry, device),
+        Some(choice) => start_job(choice.area, entry, device),
     }
 }
 
@@ -247,42 +188,29 @@ fn start_free(best: Best, entry: Area, device: Device) -> Start
 fn displaces(kind: JobType) -> bool
     ensures { result ≡ displaces kind }
 {
-    if is_erase(kind) {
-        return false;
-    }
-    !is_lock(kind)
+    !is_erase(kind) && !is_lock(kind)
 }
 
 // The erase of an area goes on or resumes, or gives way to the choice, a job of type `kind`.
-fn erase_or(area: u8, polls: u16, kind: JobType, best: Best) -> Device
+fn erase_or(area: u8, polls: u16, kind: JobType, best: Option<Ranked>) -> Device
     ensures { result ≡ erase_with area polls kind best }
 {
-    let erase = Device {
-        state: DeviceState::Runs { area, polls },
-        suspended: Suspended::Nothing,
-    };
     match best {
-        Best::Nobody => erase,
-        Best::Area {
-            area: chosen,
-            priority: _,
-            age: _,
-        } => {
-            if !displaces(kind) {
-                return erase;
-            }
-            Device {
-                state: DeviceState::Runs {
-                    area: chosen,
-                    polls: 0,
-                },
-                suspended: Suspended::Erase { area, polls },
-            }
-        }
+        Some(choice) if displaces(kind) => Device {
+            state: DeviceState::Runs {
+                area: choice.area,
+                polls: 0,
+            },
+            suspended: Some(SuspendedErase { area, polls }),
+        },
+        _ => Device {
+            state: DeviceState::Runs { area, polls },
+            suspended: None,
+        },
     }
 }
 
-pub fn start_choice(slot: Slot, best: Best, entry: Area, device: Device) -> Start
+pub fn start_choice(slot: Slot, best: Option<Ranked>, entry: Area, device: Device) -> Start
     ensures { result ≡ start_with slot best entry device }
 {
     match slot {
@@ -291,15 +219,9 @@ pub fn start_choice(slot: Slot, best: Best, entry: Area, device: Device) -> Star
             device,
         },
         Slot::Free => start_free(best, entry, device),
-        Slot::Erase { area, polls } => {
-            let job = entry.job;
-            let task = job.task;
-            let kind = task.kind;
-            let device = erase_or(area, polls, kind, best);
-            Start {
-                area: entry,
-                device,
-            }
-        }
+        Slot::Erase { area, polls } => Start {
+            area: entry,
+            device: erase_or(area, polls, entry.job.task.kind, best),
+        },
     }
 }

@@ -6,7 +6,7 @@ ghost use Rattle.rules.specs.Memory.{verdict_of, answered_memory};
 ghost use Rattle.effects.specs.Effects.{verdict, lent_end, memory_of};
 ghost use Rattle.requests.specs.Requests.{taken_state, next_of, finished_with, taken_with, due_with};
 
-use effects::{Outcome, take_effect};
+use effects::{Outcome, Request};
 use jobs::{job_differs, job_failed, job_finished};
 use memory::{DeviceAnswer, LogicalAddress};
 use plan::records::SubAreaRecord;
@@ -42,15 +42,14 @@ pub fn next_segment(
     ensures { result ≡ next_of answer sub_areas count start.0 area job due }
 {
     match answer {
-        DeviceAnswer::Pending => no_segment(),
-        DeviceAnswer::Failed(_) => no_segment(),
+        DeviceAnswer::Pending | DeviceAnswer::Failed(_) => no_segment(),
         DeviceAnswer::Done => {
-            let task = job.task;
             let upto = (job.processed as u64 + due.length) as u32;
-            if task.length <= upto {
-                return no_segment();
+            if job.task.length <= upto {
+                no_segment()
+            } else {
+                segment_from(sub_areas, count, start, area, job.task, upto)
             }
-            segment_from(sub_areas, count, start, area, task, upto)
         }
     }
 }
@@ -68,15 +67,10 @@ fn taken_job(job: Job, length: u64, retries: u8, outcome: Outcome, dropped: bool
     ensures { result ≡ taken_with length retries (verdict outcome) dropped job }
 {
     match outcome {
-        Outcome::GoesOn => {
-            if dropped {
-                return job_failed(job);
-            }
-            job
-        }
+        Outcome::GoesOn if !dropped => job,
+        Outcome::GoesOn | Outcome::Failed => job_failed(job),
         Outcome::Finished => finished_job(job, length, retries),
         Outcome::Differs => job_differs(job),
-        Outcome::Failed => job_failed(job),
     }
 }
 
@@ -84,10 +78,8 @@ fn taken_due(due: Segment, next: Segment, outcome: Outcome) -> Segment
     ensures { result ≡ due_with due next (verdict outcome) }
 {
     match outcome {
-        Outcome::GoesOn => due,
         Outcome::Finished => next,
-        Outcome::Differs => due,
-        Outcome::Failed => due,
+        Outcome::GoesOn | Outcome::Differs | Outcome::Failed => due,
     }
 }
 
@@ -95,18 +87,13 @@ fn taken_state(area: u8, polls: u16, limit: u16, outcome: Outcome) -> DeviceStat
     ensures { result ≡ taken_state area polls (verdict outcome) (leb limit (polls + 1)) }
 {
     match outcome {
-        Outcome::GoesOn => {
-            if is_dropped(polls, limit) {
-                return DeviceState::Free;
-            }
-            DeviceState::Runs {
-                area,
-                polls: polls + 1,
-            }
+        Outcome::GoesOn if !is_dropped(polls, limit) => DeviceState::Runs {
+            area,
+            polls: polls + 1,
+        },
+        Outcome::GoesOn | Outcome::Finished | Outcome::Differs | Outcome::Failed => {
+            DeviceState::Free
         }
-        Outcome::Finished => DeviceState::Free,
-        Outcome::Differs => DeviceState::Free,
-        Outcome::Failed => DeviceState::Free,
     }
 }
 
@@ -132,15 +119,18 @@ pub fn take_request(
     ensures image_after { image.new ≡ (answered_memory clears answer job.task.kind due.start.0 (window + job.processed) due.length (memory_of image.old store.old)).image }
     ensures store_after { store.new ≡ (answered_memory clears answer job.task.kind due.start.0 (window + job.processed) due.length (memory_of image.old store.old)).store }
 {
-    let task = job.task;
-    let kind = task.kind;
-    let at = due.start.0 as usize;
-    let place = window as usize + job.processed as usize;
-    let n = due.length as usize;
-    let outcome = take_effect(clears, answer, kind, at, place, n, image, store);
+    let request = Request {
+        kind: job.task.kind,
+        clears,
+        at: due.start.0 as usize,
+        window: window as usize + job.processed as usize,
+        n: due.length as usize,
+    };
+    let outcome = request.take_effect(answer, image, store);
     let dropped = is_dropped(polls, limit);
-    let job = taken_job(job, due.length, next.retries, outcome, dropped);
-    let due = taken_due(due, next, outcome);
-    let state = taken_state(area, polls, limit, outcome);
-    Taken { job, due, state }
+    Taken {
+        job: taken_job(job, due.length, next.retries, outcome, dropped),
+        due: taken_due(due, next, outcome),
+        state: taken_state(area, polls, limit, outcome),
+    }
 }

@@ -34,14 +34,7 @@ pub struct Arrays {
 fn needed_devices(dues: [Segment; 8]) -> [u8; 8]
     ensures { result ≡ needs_of dues }
 {
-    let mut needs = [0u8; 8];
-    let mut a = 0;
-    while a < 8 {
-        let due = dues[a];
-        needs[a] = due.device;
-        a += 1;
-    }
-    needs
+    dues.map(|due| due.device)
 }
 
 // Both halves, then the close; `dues` are the due segments of the pending jobs, and go with their jobs. The loops stand in one
@@ -70,21 +63,14 @@ pub fn run_round(
     let device_records = plan.devices;
     // the wear first: what the answers finish is told by the state before them
     let mut worn = [Worn::none(); 4];
-    let mut k = 0;
-    while k < plan.device_count {
-        let device = devices[k];
-        let state = device.state;
+    for k in 0..plan.device_count {
+        let state = devices[k].state;
         let area = runner(state);
-        let entry = areas[area];
-        worn[k] = worn_by(state, answers[k], entry.job, dues[area]);
-        k += 1;
+        worn[k] = worn_by(state, answers[k], areas[area].job, dues[area]);
     }
-    let mut d = 0;
-    while d < plan.device_count {
-        let device = devices[d];
-        let state = device.state;
+    for d in 0..plan.device_count {
         // the area that its request is for, or any: without a request it stays as it is
-        let area = runner(state);
+        let area = runner(devices[d].state);
         let turn = take_answer(
             sub_areas,
             plan.sub_area_count,
@@ -92,41 +78,29 @@ pub fn run_round(
             device_records[d],
             areas[area],
             dues[area],
-            device,
+            devices[d],
             answers[d],
             image,
             store,
         );
-        let entry = turn.area;
-        let due = turn.due;
-        let device = turn.device;
-        areas[area] = entry;
-        dues[area] = due;
-        devices[d] = device;
-        d += 1;
+        areas[area] = turn.area;
+        dues[area] = turn.due;
+        devices[d] = turn.device;
     }
     let needs = needed_devices(dues);
-    let mut e = 0;
-    while e < plan.device_count {
-        let device = devices[e];
-        let state = device.state;
-        let record = device_records[e];
-        let slot = slot_on(record.suspends, areas[runner(state)], device);
+    for e in 0..plan.device_count {
+        let running = areas[runner(devices[e].state)];
+        let slot = slot_on(device_records[e].suspends, running, devices[e]);
         let best = pick_area(slot, records, ages, plan.area_count, needs, areas, e);
         // without a choice any area will do: it stays as it is
         let area = chosen(best);
-        let start = start_choice(slot, best, areas[area], device);
-        let entry = start.area;
-        let device = start.device;
-        areas[area] = entry;
-        devices[e] = device;
-        e += 1;
+        let start = start_choice(slot, best, areas[area], devices[e]);
+        areas[area] = start.area;
+        devices[e] = start.device;
     }
-    let mut a = 0;
-    while a < 8 {
+    for a in 0..8 {
         let state = state_on(devices, needs[a] as usize);
         areas[a] = closed_area(records, ages, a as u8, before[a], areas[a], state);
-        a += 1;
     }
     Arrays {
         areas,

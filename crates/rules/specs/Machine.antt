@@ -1,5 +1,5 @@
 -- document 01, "Areas at rest and in work" and "A round": the machine of jobs and devices
-use Rattle.std.specs.Prelude.{ℕ, zero, suc, ◌+◌, ◌-◌, Bool, true, false, not, ◌&&◌, ◌||◌, ltb, leb, eqb}
+use Rattle.std.specs.Prelude.{ℕ, zero, suc, ◌+◌, ◌-◌, Bool, true, false, not, ◌&&◌, ◌||◌, ltb, leb, eqb, Option, None, Some}
 use Rattle.arith.specs.Cases.{pick}
 use Rattle.arith.specs.Parts.{upd}
 use Rattle.memory.specs.declared.JobStatus.{JobStatus}
@@ -10,8 +10,7 @@ use Rattle.segment.specs.Segments.{is_lock, is_erase}
 use Rattle.segment.specs.declared.Segment.{Segment}
 use Rattle.state.specs.declared.Device.{Device}
 use Rattle.state.specs.declared.DeviceState.{DeviceState}
-use Rattle.state.specs.declared.Suspended.{Suspended}
-use Rattle.state.specs.declared.Suspended.TheVariants as Kept
+use Rattle.state.specs.declared.SuspendedErase.{SuspendedErase}
 use Rattle.state.specs.declared.DeviceState.TheVariants.{Free, Runs, LockedFor}
 use Rattle.state.specs.declared.Job.{Job}
 use Rattle.rules.specs.Layout.{Layout}
@@ -34,7 +33,7 @@ set_job a j c = record { jobs = upd c.jobs a j; devices = c.devices }
 abbrev pub set_both : ℕ → Job → ℕ → DeviceState → Core → Core
 set_both a j d x c = record { jobs = upd c.jobs a j; devices = upd c.devices d (doing x (c.devices d)) }
 
-abbrev pub set_device : ℕ → DeviceState → Suspended → Core → Core
+abbrev pub set_device : ℕ → DeviceState → Option SuspendedErase → Core → Core
 set_device d x s c = record { jobs = c.jobs; devices = upd c.devices d (record { state = x; suspended = s }) }
 
 -- a cancelled job whose request still runs is pending: "the area stays pending"
@@ -165,10 +164,10 @@ displaces k = not (is_erase k) && not (is_lock k)
 -- own among them. "the erase is parked with its polls kept and that piece starts"; else it goes on, or "resumes". A choice that
 -- displaces is not b's, so it outranks b.
 abbrev pub erase_or : ℕ → ℕ → ℕ → ℕ → Bool → Core → Core
-erase_or d b polls a displacing c = pick displacing (set_device d (Runs a 0) (Kept.Erase b polls) c) (set_device d (Runs b polls) Kept.Nothing c)
+erase_or d b polls a displacing c = pick displacing (set_device d (Runs a 0) (Some (record { area = b; polls = polls })) c) (set_device d (Runs b polls) None c)
 
 abbrev pub erase_or_choice : ℕ → ℕ → ℕ → Choice → Core → Core
-erase_or_choice d b polls nobody c = set_device d (Runs b polls) Kept.Nothing c
+erase_or_choice d b polls nobody c = set_device d (Runs b polls) None c
 erase_or_choice d b polls (area a) c = erase_or d b polls a (displaces (c.jobs a).task.kind) c
 
 -- a request runs and nothing is suspended: an erase, on a device that can suspend it, or not
@@ -176,12 +175,12 @@ abbrev pub start_over : Layout → ℕ → ℕ → ℕ → Bool → Core → Cor
 start_over p d b polls suspendable c = pick suspendable (erase_or_choice d b polls (best p c d p.areas) c) c
 
 -- "A locked device starts nothing, also for the holder." "One erase is parked per chip, no lock is given meanwhile"
-abbrev pub start_on : Layout → ℕ → DeviceState → Suspended → Core → Core
-start_on p d Free Kept.Nothing c = start_choice d (best p c d p.areas) c
-start_on p d Free (Kept.Erase b polls) c = erase_or_choice d b polls (best p c d p.areas) c
+abbrev pub start_on : Layout → ℕ → DeviceState → Option SuspendedErase → Core → Core
+start_on p d Free None c = start_choice d (best p c d p.areas) c
+start_on p d Free (Some s) c = erase_or_choice d s.area s.polls (best p c d p.areas) c
 start_on p d (LockedFor a) s c = c
-start_on p d (Runs b polls) Kept.Nothing c = start_over p d b polls (p.suspends d && is_erase (c.jobs b).task.kind) c
-start_on p d (Runs b polls) (Kept.Erase a kept) c = c
+start_on p d (Runs b polls) None c = start_over p d b polls (p.suspends d && is_erase (c.jobs b).task.kind) c
+start_on p d (Runs b polls) (Some s) c = c
 
 unfoldable pub start_device : Layout → ℕ → Core → Core
 start_device p d c = start_on p d (c.devices d).state (c.devices d).suspended c
@@ -217,9 +216,9 @@ runs_for a Free = false
 runs_for a (LockedFor b) = false
 runs_for a (Runs b polls) = eqb b a
 
-abbrev pub kept_for : ℕ → Suspended → Bool
-kept_for a Kept.Nothing = false
-kept_for a (Kept.Erase b polls) = eqb b a
+abbrev pub kept_for : ℕ → Option SuspendedErase → Bool
+kept_for a None = false
+kept_for a (Some s) = eqb s.area a
 
 abbrev pub holds : ℕ → Device → Bool
 holds a x = runs_for a x.state || kept_for a x.suspended

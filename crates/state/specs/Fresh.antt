@@ -1,4 +1,5 @@
 -- document 01, "Areas at rest and in work": "Loading yields a fresh area: idle, result 0, no job, all counts 0."
+use Rattle.std.specs.Prelude.{None}
 use Rattle.memory.specs.declared.JobType.TheVariants.{NoJob}
 use Rattle.memory.specs.declared.JobStatus.TheVariants.{Idle}
 use Rattle.state.specs.declared.Job.{Job}
@@ -6,7 +7,6 @@ use Rattle.state.specs.declared.Waits.{Waits}
 use Rattle.state.specs.declared.Area.{Area}
 use Rattle.state.specs.declared.Device.{Device}
 use Rattle.state.specs.declared.DeviceState.TheVariants.{Free}
-use Rattle.state.specs.declared.Suspended.TheVariants.{Nothing}
 
 abbrev pub no_job : Job
 no_job =
@@ -26,4 +26,4 @@ fresh_area = record { job = no_job; waits = no_waits }
 
 -- nothing runs there or is suspended, and it is not locked
 abbrev pub free_device : Device
-free_device = record { state = Free; suspended = Nothing }
+free_device = record { state = Free; suspended = None }

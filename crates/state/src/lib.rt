@@ -43,15 +43,15 @@ pub enum DeviceState {
 
 // An erase that has given way, with its polls; its area's due segment is the one that it erases.
 #[derive(Clone, Copy)]
-pub enum Suspended {
-    Nothing,
-    Erase { area: u8, polls: u16 },
+pub struct SuspendedErase {
+    pub area: u8,
+    pub polls: u16,
 }
 
 #[derive(Clone, Copy)]
 pub struct Device {
     pub state: DeviceState,
-    pub suspended: Suspended,
+    pub suspended: Option<SuspendedErase>,
 }
 
 // The running request of a job; all zeros where none runs. The hardware id is the device number.
@@ -134,7 +134,7 @@ impl Device {
     {
         Device {
             state: DeviceState::Free,
-            suspended: Suspended::Nothing,
+            suspended: None,
         }
     }
 }

@@ -1,5 +1,5 @@
 -- The close of a round, as the code goes: what an area waits for.
-use Rattle.std.specs.Prelude.{ℕ, ◌≤◌, true, false, List, [], ◌≡◌, length, get_or}
+use Rattle.std.specs.Prelude.{ℕ, ◌≤◌, true, false, List, [], ◌≡◌, length, get_or, Option, None, Some}
 use Rattle.std.proofs.Common.{sym, ap, eq-eqb, ne_eqb, arith}
 use Rattle.std.proofs.Math.ListN.{get_or-eq_default}
 use Rattle.plan.specs.Questions.{area_of, device_of}
@@ -29,12 +29,12 @@ needs_layout records ages count holders needs =
       segment = λ a t x. record { start = no_segment.start; length = 0; device = get_or needs a 0; retries = 0; sub_area = 0; sector = 0 };
     }
 
-abbrev pub wait_is : Wait → Machine.Wait
-wait_is Waiting.Own = Machine.own
-wait_is Waiting.Above = Machine.above
-wait_is Waiting.Below = Machine.below
-wait_is Waiting.Locked = Machine.locked
-wait_is Waiting.Nothing = Machine.none
+abbrev pub wait_is : Option Wait → Machine.Wait
+wait_is None = Machine.none
+wait_is (Some Waiting.Own) = Machine.own
+wait_is (Some Waiting.Above) = Machine.above
+wait_is (Some Waiting.Below) = Machine.below
+wait_is (Some Waiting.Locked) = Machine.locked
 
 -- what the rank of areas asks of a plan
 abbrev pub rank_layout : List AreaRecord → List ℕ → Layout

@@ -1,17 +1,11 @@
-use native.Mathlib.Omega.{arith}
-use mathlib.Core.Path.{refl, sym, ap, ◌∙◌}
-use Rattle.arith.specs.Bounded.{some, some_intro, some_none}
+use Rattle.std.proofs.Common.{◌≡◌, rules, arith, take}
+use Rattle.std.proofs.lemmas.List.{take_all}
+use Rattle.arith.specs.InLists.{any_in_slice}
+use Rattle.rules.specs.Machine.{holds}
+use Rattle.state.specs.Fresh.{free_device}
 use Rattle.devices.proofs.held_somewhere.Goals as goal
 
-pub loop-d-init : goal.loop-d-init
-unfolding some
-loop-d-init c = (omega arith, refl)
-
-pub returns-then-holds : goal.returns-then-holds
-returns-then-holds c = sym (some_intro _ 4 c.loop-d.d (omega (arith, c.loop-d-test.true)) (sym c.holds.ensures ∙ c.if-holds.true))
-
-pub loop-d-preserved : goal.loop-d-preserved
-loop-d-preserved c = (omega (arith, c.loop-d-test.true), some_none _ _ c.loop-d.invariant.1 (sym c.holds.ensures ∙ c.if-holds.false))
-
 pub returns : goal.returns
-returns c = sym (ap (some _) (omega (arith, c.loop-d-test.false, c.loop-d.invariant.0)) ∙ c.loop-d.invariant.1)
+returns c =
+    let whole : take 4 c.args.devices ≡ c.args.devices = take_all 4 c.args.devices (omega arith) in
+    any_in_slice free_device c.args.devices (λ device. holds c.args.area device) 4 (omega arith) c.any.ensures.ran (cc) (λ x b q k. search rules)

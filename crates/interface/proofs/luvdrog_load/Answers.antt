@@ -1,7 +1,7 @@
 use Rattle.std.proofs.Common.{rules, ◌∙◌}
 use Rattle.state.specs.Fresh.{fresh_area, free_device}
 use Rattle.interface.specs.Views.{area_view, device_view, view_is}
-use Rattle.interface.proofs.Mapped.{mapped}
+use Rattle.arith.specs.Mapped.{mapped}
 use Rattle.interface.proofs.luvdrog_load.Goals as goal
 
 pub returns : goal.returns

@@ -1,10 +1,6 @@
 use Rattle.picks.specs.laws.Picks.{best_to, ready_in}
 use mathlib.Core.Path.{◌≡◌}
-use Prim.Native.Nat.{◌-◌, ◌≤◌}
 use Rattle.picks.proofs.best_area.Given as goal
 
 abbrev pub invariant-loop-a : goal.invariant-loop-a
-invariant-loop-a l = (l.a ≤ l.count) × (l.best ≡ best_to l.records l.ages (ready_in l.needs l.areas l.device) l.a)
-
-abbrev pub decreases-loop-a : goal.decreases-loop-a
-decreases-loop-a l = l.count - l.a
+invariant-loop-a l = l.best ≡ best_to l.records l.ages (ready_in l.needs l.areas l.device) l.a

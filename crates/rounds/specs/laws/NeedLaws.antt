@@ -1,6 +1,6 @@
 -- The devices that the code finds once are those that the rules ask for, device by device.
 use Prim.Native.Nat.{ℕ, zero, suc, ◌≤◌, ◌<◌}
-use Rattle.std.specs.Prelude.{Bool, true, false, ◌&&◌, ◌≡◌, length, get_or}
+use Rattle.std.specs.Prelude.{Bool, true, false, ◌&&◌, ◌≡◌, length, get_or, Option, None, Some}
 use Rattle.std.proofs.lemmas.Bool.{false≢true}
 use mathlib.Core.List.{List, []}
 use Rattle.std.proofs.Math.Path.{refl, ap}
@@ -26,8 +26,7 @@ use Rattle.state.specs.declared.Area.{Area}
 use Rattle.state.specs.declared.Device.{Device}
 use Rattle.state.specs.declared.DeviceState.{DeviceState}
 use Rattle.state.specs.declared.DeviceState.TheVariants.{Free, Runs, LockedFor}
-use Rattle.state.specs.declared.Suspended.{Suspended}
-use Rattle.state.specs.declared.Suspended.TheVariants as Kept
+use Rattle.state.specs.declared.SuspendedErase.{SuspendedErase}
 use Rattle.state.specs.declared.Waits.{Waits}
 use Rattle.close.specs.Close.{closed, waits_in, areas_after, devices_after, lent_to, halves_of}
 use Rattle.close.specs.laws.Waits.{needs_layout}
@@ -78,12 +77,12 @@ module _ (p : Plan) (few : p.area_count ≤ 8) (ages needs : List ℕ) where
       over b q true = ap (λ x. erase_or_choice d b q x c) same
       over b q false = refl
 
-      go : (x : DeviceState) (s : Suspended) → start_on found d x s c ≡ start_on asked d x s c
-      go Free Kept.Nothing = ap (λ x. start_choice d x c) same
-      go Free (Kept.Erase b q) = ap (λ x. erase_or_choice d b q x c) same
+      go : (x : DeviceState) (s : Option SuspendedErase) → start_on found d x s c ≡ start_on asked d x s c
+      go Free None = ap (λ x. start_choice d x c) same
+      go Free (Some s) = ap (λ x. erase_or_choice d s.area s.polls x c) same
       go (LockedFor a) s = refl
-      go (Runs b q) Kept.Nothing = over b q ((device_of p.devices d).suspends && is_erase (c.jobs b).task.kind)
-      go (Runs b q) (Kept.Erase a k) = refl
+      go (Runs b q) None = over b q ((device_of p.devices d).suspends && is_erase (c.jobs b).task.kind)
+      go (Runs b q) (Some s) = refl
 
   -- a lock request that ends is not pending, and nothing else in a job changes
   start_needed : (c : Core) → Needed p needs c → (d : ℕ) → Needed p needs (start_device asked d c)

@@ -1,6 +1,6 @@
 -- The calls that are no round.
 use Prim.Native.Nat.{ℕ, ◌≤◌, ◌<◌}
-use Rattle.std.specs.Prelude.{Bool, false, [], ◌∷◌, ◌≡◌}
+use Rattle.std.specs.Prelude.{Bool, false, [], ◌∷◌, ◌≡◌, Some}
 use Rattle.std.proofs.Math.Bool.{true}
 use Rattle.std.proofs.Common.{true≢false, sym, ap, ◌∙◌, arith, le-ltb, eq-eqb}
 use Rattle.std.proofs.lemmas.Bool.{false≢true}
@@ -14,7 +14,6 @@ use Rattle.segment.specs.declared.Segment.{Segment}
 use Rattle.state.specs.declared.Device.{Device}
 use Rattle.state.specs.declared.DeviceState.TheVariants.{Free, Runs, LockedFor}
 use Rattle.state.specs.declared.Job.{Job}
-use Rattle.state.specs.declared.Suspended.TheVariants as Kept
 use Rattle.rules.proofs.laws.Close.{bounds_of, TallyFits, tally_stays}
 use Rattle.rules.proofs.laws.FewLeft.{low_few}
 use Rattle.rules.proofs.laws.FirstHalf.{closes_few}
@@ -35,7 +34,7 @@ module _ (p : Layout) (admits : ℕ → Task → Bool) (c : Core) (r : Reachable
 
   -- the job of area b becomes k
   job_passes : (b : ℕ) (k : Job) → ((d q : ℕ) → (c.devices d).state ≡ Runs b q → Running p d b q (c.jobs b) → Running p d b q k) →
-      ((d q : ℕ) → (c.devices d).suspended ≡ Kept.Erase b q → Suspending p d b q (c.jobs b) → Suspending p d b q k) →
+      ((d q : ℕ) → (c.devices d).suspended ≡ Some (record { area = b; polls = q }) → Suspending p d b q (c.jobs b) → Suspending p d b q k) →
       FollowsAt p admits 0 0 c (set_job b k c) b → Passes p admits 0 0 c (set_job b k c)
   job_passes b k runs kept mine =
       record {
@@ -57,7 +56,7 @@ module _ (p : Layout) (admits : ℕ → Task → Bool) (c : Core) (r : Reachable
       runs_here : (q : ℕ) → x.state ≡ Runs a q → holds a x ≡ true
       runs_here q e = or_left (runs_for a x.state) (kept_for a x.suspended) (rw e (eq-eqb a a refl))
 
-      kept_here : (q : ℕ) → x.suspended ≡ Kept.Erase a q → holds a x ≡ true
+      kept_here : (q : ℕ) → x.suspended ≡ Some (record { area = a; polls = q }) → holds a x ≡ true
       kept_here q e = or_right (runs_for a x.state) (kept_for a x.suspended) (rw e (eq-eqb a a refl))
 
       go : (t : Bool) → holds a x ≡ t → Passes p admits 0 0 c (cancel_if t a c)

@@ -1,5 +1,5 @@
 -- The first half of a round, device by device.
-use Rattle.std.specs.Prelude.{ℕ, zero, suc, ◌+◌, ◌-◌, ◌≤◌, ◌<◌, Bool, true, false, ◌≡◌, ltb, eqb}
+use Rattle.std.specs.Prelude.{ℕ, zero, suc, ◌+◌, ◌-◌, ◌≤◌, ◌<◌, Bool, true, false, ◌≡◌, ltb, eqb, Option, None, Some}
 use Rattle.std.proofs.lemmas.Bool.{false≢true}
 use Rattle.std.proofs.Common.{true≢false, sym, ap, subst, ◌∙◌, le_refl, arith, ltb-true, eqb-true, eq-eqb}
 use Rattle.std.proofs.Math.Path.{refl}
@@ -11,8 +11,7 @@ use Rattle.state.specs.declared.Device.{Device}
 use Rattle.state.specs.declared.DeviceState.{DeviceState}
 use Rattle.state.specs.declared.DeviceState.TheVariants.{Free, Runs, LockedFor}
 use Rattle.state.specs.declared.Job.{Job}
-use Rattle.state.specs.declared.Suspended.{Suspended}
-use Rattle.state.specs.declared.Suspended.TheVariants as Kept
+use Rattle.state.specs.declared.SuspendedErase.{SuspendedErase}
 use Rattle.rules.proofs.laws.FewLeft.{low_few}
 use Rattle.rules.proofs.laws.Laws.{Laws}
 use Rattle.rules.proofs.laws.Polls.{PolledOn, Taken, first_turn, take_poll}
@@ -55,9 +54,9 @@ module _ (p : Layout) (admits : ℕ → Task → Bool) (n : ℕ) (c : Core) (r :
     runs = rw e at (r.devices n).state
 
     -- nor is its job that of what is suspended
-    not_kept : (s : Suspended) → Apart (Runs b q) s → (k : ℕ) → s ≡ Kept.Erase b k → ⊥
-    not_kept Kept.Nothing h k g = absurd (true≢false (sym (ap (kept_for b) g ∙ eq-eqb b b refl)))
-    not_kept (Kept.Erase a l) h k g = h (sym (eqb-true a b (ap (kept_for b) g ∙ eq-eqb b b refl)))
+    not_kept : (s : Option SuspendedErase) → Apart (Runs b q) s → (k : ℕ) → s ≡ Some (record { area = b; polls = k }) → ⊥
+    not_kept None h k g = absurd (true≢false (sym (ap (kept_for b) g ∙ eq-eqb b b refl)))
+    not_kept (Some s) h k g = h (sym (eqb-true s.area b (ap (kept_for b) g ∙ eq-eqb b b refl)))
 
     -- the request ends
     take_end : (k : Job) → Settled p admits b (c.jobs b) k → Taken p admits n (suc n) c (set_both b k n Free c)

@@ -1,6 +1,6 @@
 -- The choice of a device that has an erase, as document 02 words it: the erase's own area is not among the ready. First at the device's
 -- turn, then over the whole second half, as the turns of the others leave it alone.
-use Rattle.std.specs.Prelude.{ℕ, ◌<◌, Bool, true, false, not, ◌&&◌, List, ◌≢◌, ◌≡◌, refl, eqb}
+use Rattle.std.specs.Prelude.{ℕ, ◌<◌, Bool, true, false, not, ◌&&◌, List, ◌≢◌, ◌≡◌, refl, eqb, Option, None, Some}
 use Rattle.std.proofs.Common.{true≢false, sym, ◌∙◌, le_refl, arith, ne_eqb}
 use Rattle.std.proofs.Math.Path.{ap, subst}
 use Rattle.arith.specs.Cases.{by_bool, by_eqb, and_elim, and_intro}
@@ -12,8 +12,7 @@ use Rattle.segment.specs.Segments.{is_erase, is_lock}
 use Rattle.state.specs.Fresh.{free_device}
 use Rattle.state.specs.declared.DeviceState.{DeviceState}
 use Rattle.state.specs.declared.DeviceState.TheVariants.{Free, Runs, LockedFor}
-use Rattle.state.specs.declared.Suspended.{Suspended}
-use Rattle.state.specs.declared.Suspended.TheVariants as Kept
+use Rattle.state.specs.declared.SuspendedErase.{SuspendedErase}
 use Rattle.rules.specs.Admission.{round_number, admits}
 use Rattle.rules.proofs.laws.Best.{ready_plain, NotBelow, Ready, best_ready}
 use Rattle.rules.proofs.laws.BestAbove.{best_not_below}
@@ -33,16 +32,16 @@ use Rattle.rules.specs.statements.Statements.{answered_core, FirstCome}
 use Rattle.rules.proofs.laws.StepLaws.{same_ready, Stays, earlier_turns, later_turns}
 
 -- what runs over a suspended erase outranks its area
-abbrev pub Over : Layout → DeviceState → Suspended → Type 0
-Over p x Kept.Nothing = Unit {0}
-Over p (Runs a q) (Kept.Erase b k) = p.outranks a b ≡ true
-Over p Free (Kept.Erase b k) = ⊥
-Over p (LockedFor a) (Kept.Erase b k) = ⊥
+abbrev pub Over : Layout → DeviceState → Option SuspendedErase → Type 0
+Over p x None = Unit {0}
+Over p (Runs a q) (Some s) = p.outranks a s.area ≡ true
+Over p Free (Some s) = ⊥
+Over p (LockedFor a) (Some s) = ⊥
 
 -- device d, which has area b's erase, has its turn
 pub record Turn (p : Layout) (c : Core) (d b polls : ℕ) : Type 0 where
-  gives_way : (a : ℕ) → Qualifies p c d b a → (start_device p d c).devices d ≡ record { state = Runs a 0; suspended = Kept.Erase b polls }
-  goes_on : ((a : ℕ) → Qualifies p c d b a → ⊥) → (start_device p d c).devices d ≡ record { state = Runs b polls; suspended = Kept.Nothing }
+  gives_way : (a : ℕ) → Qualifies p c d b a → (start_device p d c).devices d ≡ record { state = Runs a 0; suspended = Some (record { area = b; polls = polls }) }
+  goes_on : ((a : ℕ) → Qualifies p c d b a → ⊥) → (start_device p d c).devices d ≡ record { state = Runs b polls; suspended = None }
   jobs : (start_device p d c).jobs ≡ c.jobs
   pub over : let x = (start_device p d c).devices d in Over p x.state x.suspended
 
@@ -149,15 +148,15 @@ module _ (p : Layout) (admits : ℕ → Task → Bool) (L : Laws p admits) (one 
           }
         where
           displaced : (a : ℕ) → is_erase (c.jobs a).task.kind ≡ false → is_lock (c.jobs a).task.kind ≡ false →
-              (erase_or_choice d b q (area a) c).devices d ≡ record { state = Runs a 0; suspended = Kept.Erase b q }
+              (erase_or_choice d b q (area a) c).devices d ≡ record { state = Runs a 0; suspended = Some (record { area = b; polls = q }) }
           displaced a f g = rw (f, g) (upd_same c.devices d _)
 
           kept : ((a : ℕ) → Qualifies p c d b a → ⊥) → (x : Choice) → choice ≡ x →
-              (erase_or_choice d b q x c).devices d ≡ record { state = Runs b q; suspended = Kept.Nothing }
+              (erase_or_choice d b q x c).devices d ≡ record { state = Runs b q; suspended = None }
           kept none nobody f = upd_same c.devices d _
           kept none (area a) f = test (displaces (c.jobs a).task.kind) refl
             where
-              test : (t : Bool) → displaces (c.jobs a).task.kind ≡ t → (erase_or d b q a t c).devices d ≡ record { state = Runs b q; suspended = Kept.Nothing }
+              test : (t : Bool) → displaces (c.jobs a).task.kind ≡ t → (erase_or d b q a t c).devices d ≡ record { state = Runs b q; suspended = None }
               test true g = absurd (none a (qualifies a f g))
               test false g = upd_same c.devices d _
 
@@ -192,16 +191,16 @@ other_runs : (p : Layout) (c : Core) (d b q : ℕ) → (c.devices d).state ≡ R
 unfolding start_device
 other_runs p c d b q e other = ap (λ s. (start_on p d s (c.devices d).suspended c).devices d) e ∙ go (c.devices d).suspended refl
   where
-    test : (t : Bool) → (p.suspends d && is_erase (c.jobs b).task.kind) ≡ t → (c.devices d).suspended ≡ Kept.Nothing →
+    test : (t : Bool) → (p.suspends d && is_erase (c.jobs b).task.kind) ≡ t → (c.devices d).suspended ≡ None →
         (start_over p d b q t c).devices d ≡ c.devices d
     test true f k =
         let (can, erases) = and_elim (p.suspends d) (is_erase (c.jobs b).task.kind) f in
         absurd (other (running (λ i. record { state = e i; suspended = k i }) can erases))
     test false f k = refl
 
-    go : (s : Suspended) → (c.devices d).suspended ≡ s → (start_on p d (Runs b q) s c).devices d ≡ c.devices d
-    go Kept.Nothing k = test (p.suspends d && is_erase (c.jobs b).task.kind) refl k
-    go (Kept.Erase a kept) k = refl
+    go : (s : Option SuspendedErase) → (c.devices d).suspended ≡ s → (start_on p d (Runs b q) s c).devices d ≡ c.devices d
+    go None k = test (p.suspends d && is_erase (c.jobs b).task.kind) refl k
+    go (Some s) k = refl
 
 module _ (p : Layout) (d : ℕ) where
   -- the same jobs are ready in both

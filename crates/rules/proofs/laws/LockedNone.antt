@@ -1,6 +1,6 @@
 -- A job waits for no lock where no accepted lock request is of a device that its area is on.
 use Prim.Native.Nat.{ℕ, zero, suc, ◌<◌}
-use Rattle.std.specs.Prelude.{Bool, ◌&&◌, ◌||◌, ◌≡◌, refl}
+use Rattle.std.specs.Prelude.{Bool, ◌&&◌, ◌||◌, ◌≡◌, refl, Option, None, Some}
 use Rattle.std.proofs.Math.Bool.{true, false}
 use Rattle.std.proofs.lemmas.Bool.{false≢true}
 use Rattle.std.proofs.Common.{true≢false, sym, subst, ◌∙◌, eq-eqb}
@@ -19,8 +19,7 @@ use Rattle.state.specs.declared.Device.{Device}
 use Rattle.state.specs.declared.DeviceState.{DeviceState}
 use Rattle.state.specs.declared.DeviceState.TheVariants.{Free, Runs, LockedFor}
 use Rattle.state.specs.declared.Job.{Job}
-use Rattle.state.specs.declared.Suspended.{Suspended}
-use Rattle.state.specs.declared.Suspended.TheVariants as Kept
+use Rattle.state.specs.declared.SuspendedErase.{SuspendedErase}
 use Rattle.rules.specs.Admission.{admits, job_number, release_number, cancel_number, round_number}
 use Rattle.rules.specs.History.{Call, submit, releases, cancels, asks, round, Tally, no_tally, count, close, History, lent, fresh_history, round_of, submitted, step, run}
 use Rattle.rules.specs.Layout.{Layout, layout_of, layout_at}
@@ -135,12 +134,12 @@ module _ (p : Layout) (on : ℕ → Bool) where
       over b q true = erase b q (best p c d p.areas)
       over b q false = k
 
-      go : (x : DeviceState) (s : Suspended) → Calm (start_on p d x s c)
-      go Free Kept.Nothing = picked (best p c d p.areas) (best_ready p c d p.areas)
-      go Free (Kept.Erase b q) = erase b q (best p c d p.areas)
+      go : (x : DeviceState) (s : Option SuspendedErase) → Calm (start_on p d x s c)
+      go Free None = picked (best p c d p.areas) (best_ready p c d p.areas)
+      go Free (Some s) = erase s.area s.polls (best p c d p.areas)
       go (LockedFor a) s = k
-      go (Runs b q) Kept.Nothing = over b q (p.suspends d && is_erase (c.jobs b).task.kind)
-      go (Runs b q) (Kept.Erase a n) = k
+      go (Runs b q) None = over b q (p.suspends d && is_erase (c.jobs b).task.kind)
+      go (Runs b q) (Some s) = k
 
   -- all devices pick
   second_calm : (c : Core) → Calm c → (n : ℕ) → Calm (second_half p n c)

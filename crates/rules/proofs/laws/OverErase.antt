@@ -1,5 +1,5 @@
 -- What a device may run over an erase that it keeps.
-use Rattle.std.specs.Prelude.{ℕ, ◌<◌, ◌≡◌}
+use Rattle.std.specs.Prelude.{ℕ, ◌<◌, ◌≡◌, Some}
 use Rattle.std.proofs.Math.Bool.{true, false}
 use Rattle.std.proofs.Common.{true≢false, sym, ap, ◌∙◌}
 use Rattle.std.proofs.lemmas.Bool.{false≢true}
@@ -8,7 +8,6 @@ use Rattle.memory.specs.declared.JobType.{JobType}
 use Rattle.memory.specs.declared.JobType.TheVariants as Types
 use Rattle.segment.specs.Segments.{is_lock, is_erase}
 use Rattle.state.specs.declared.DeviceState.TheVariants.{Runs}
-use Rattle.state.specs.declared.Suspended.TheVariants as Kept
 use Rattle.rules.specs.Layout.{Layout}
 use Rattle.rules.specs.Machine.{Core, is_pending, need, displaces}
 use Rattle.rules.proofs.laws.Reachable.{Suspending, DeviceFits}
@@ -29,7 +28,7 @@ module _ (p : Layout) (n : ℕ) (c : Core) (b q : ℕ) (f : Suspending p n b q (
   other d g = true≢false (sym f.erases ∙ ap (λ i. is_erase (c.jobs i).task.kind) (sym g) ∙ (kinds (c.jobs a).task.kind d).0)
 
   pub new : (is_pending (c.jobs a) ≡ true) × (need p a (c.jobs a) ≡ n) → displaces (c.jobs a).task.kind ≡ true → 0 < p.limit n →
-      DeviceFits p c.jobs n (record { state = Runs a 0; suspended = Kept.Erase b q })
+      DeviceFits p c.jobs n (record { state = Runs a 0; suspended = Some (record { area = b; polls = q }) })
   new waits d few =
       record {
         state = record { pending = waits.0; no_lock = (kinds (c.jobs a).task.kind d).1; needed = waits.1; few = few };

@@ -1,13 +1,12 @@
 -- A device's turn in the first half of a round, and the answer pending.
-use Rattle.std.specs.Prelude.{ℕ, suc, ◌+◌, ◌≤◌, ◌<◌, Bool, ◌≡◌}
+use Rattle.std.specs.Prelude.{ℕ, suc, ◌+◌, ◌≤◌, ◌<◌, Bool, ◌≡◌, Option, None, Some}
 use Rattle.std.proofs.Common.{le_refl, arith, lt-ltb, le-ltb}
 use Rattle.arith.specs.Cases.{by_ltb}
 use Rattle.arith.specs.Parts.{upd_case}
 use Rattle.memory.specs.declared.Task.{Task}
 use Rattle.state.specs.declared.DeviceState.{DeviceState}
 use Rattle.state.specs.declared.DeviceState.TheVariants.{Free, Runs, LockedFor}
-use Rattle.state.specs.declared.Suspended.{Suspended}
-use Rattle.state.specs.declared.Suspended.TheVariants as Kept
+use Rattle.state.specs.declared.SuspendedErase.{SuspendedErase}
 use Rattle.rules.specs.Layout.{Layout}
 use Rattle.rules.specs.Machine.{Core, doing, set_state, wait_behind}
 use Rattle.rules.proofs.laws.Reachable.{Running, Apart, Reachable, Passes}
@@ -43,9 +42,9 @@ module _ (p : Layout) (admits : ℕ → Task → Bool) (n : ℕ) (c : Core) (r :
   running = rw e at (r.devices n).state
 
   -- what runs on is still not what is suspended
-  polled_apart : (s : Suspended) → Apart (Runs b q) s → Apart (Runs b (q + 1)) s
-  polled_apart Kept.Nothing h = tt
-  polled_apart (Kept.Erase a k) h = h
+  polled_apart : (s : Option SuspendedErase) → Apart (Runs b q) s → Apart (Runs b (q + 1)) s
+  polled_apart None h = tt
+  polled_apart (Some s) h = h
 
   -- "Pending adds 1 to the request's polls"
   pub take_poll : q + 1 < p.limit n → Taken p admits n (suc n) c (set_state n (Runs b (q + 1)) c)

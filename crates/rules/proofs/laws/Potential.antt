@@ -1,6 +1,6 @@
 -- What own and below can still grow by until a job's end. No answer, start or call makes it more, and a close that counts one
 -- of the two takes one of it.
-use Rattle.std.specs.Prelude.{ℕ, ◌+◌, ◌-◌, ◌*◌, ◌≤◌, Bool, true, false, ◌≡◌, refl, ltb, eqb}
+use Rattle.std.specs.Prelude.{ℕ, ◌+◌, ◌-◌, ◌*◌, ◌≤◌, Bool, true, false, ◌≡◌, refl, ltb, eqb, Option, None, Some}
 use Rattle.std.proofs.Common.{arith, eqb-true}
 use Rattle.std.proofs.lemmas.Bool.{eqb-false}
 use Rattle.arith.specs.Cases.{pick, by_bool}
@@ -9,8 +9,7 @@ use Rattle.state.specs.declared.Device.{Device}
 use Rattle.state.specs.declared.DeviceState.{DeviceState}
 use Rattle.state.specs.declared.DeviceState.TheVariants.{Free, Runs, LockedFor}
 use Rattle.state.specs.declared.Job.{Job}
-use Rattle.state.specs.declared.Suspended.{Suspended}
-use Rattle.state.specs.declared.Suspended.TheVariants as Kept
+use Rattle.state.specs.declared.SuspendedErase.{SuspendedErase}
 use Rattle.rules.specs.Layout.{Layout, most_below}
 use Rattle.rules.specs.Machine.{is_pending, due, need, Wait, own, above, below, locked, none, wait_behind, wait_on, kept_for}
 
@@ -43,12 +42,12 @@ due_left locked closes limit = record { own = limit; below = 0 }
 due_left none closes limit = record { own = limit; below = 0 }
 
 -- how many closes a suspended erase can still see, once it has resumed
-abbrev pub kept_closes : ℕ → Suspended → ℕ
-kept_closes limit Kept.Nothing = 0
-kept_closes limit (Kept.Erase b polls) = limit - polls
+abbrev pub kept_closes : ℕ → Option SuspendedErase → ℕ
+kept_closes limit None = 0
+kept_closes limit (Some s) = limit - s.polls
 
 -- what the try that is due can add to own where it does not run: a suspended one keeps its polls
-abbrev pub try_left : ℕ → ℕ → Suspended → ℕ
+abbrev pub try_left : ℕ → ℕ → Option SuspendedErase → ℕ
 try_left a limit s = pick (kept_for a s) (kept_closes limit s) limit
 
 abbrev pub if_below : Wait → ℕ → ℕ
@@ -59,9 +58,9 @@ if_below locked n = 0
 if_below none n = 0
 
 -- what a suspended erase of a lower area can add to below
-abbrev pub low_left : Layout → ℕ → ℕ → Suspended → ℕ
-low_left p a limit Kept.Nothing = 0
-low_left p a limit (Kept.Erase b polls) = if_below (wait_behind p a b) (limit - polls)
+abbrev pub low_left : Layout → ℕ → ℕ → Option SuspendedErase → ℕ
+low_left p a limit None = 0
+low_left p a limit (Some s) = if_below (wait_behind p a s.area) (limit - s.polls)
 
 -- the limit of the device that a job needs
 abbrev pub limit_of : Layout → ℕ → Job → ℕ
@@ -124,11 +123,11 @@ due_most p t a limit x =
     by_wait locked n m h k = omega arith
     by_wait none n m h k = omega arith
 
-    kept_few : (s : Suspended) → kept_closes limit s ≤ limit
-    kept_few Kept.Nothing = omega arith
-    kept_few (Kept.Erase b q) = omega arith
+    kept_few : (s : Option SuspendedErase) → kept_closes limit s ≤ limit
+    kept_few None = omega arith
+    kept_few (Some s) = omega arith
 
-    try_few : (s : Suspended) → try_left a limit s ≤ limit
+    try_few : (s : Option SuspendedErase) → try_left a limit s ≤ limit
     try_few s = let h = kept_few s in by_bool (kept_for a s) (λ e. rw e h) (λ e. rw e (omega arith))
 
     closes : (x : DeviceState) → closes_on t limit x ≤ limit

@@ -1,5 +1,5 @@
 -- What does not depend on ranks, and that an acceptance leaves those of the other areas.
-use Rattle.std.specs.Prelude.{ℕ, ◌-◌, Bool, true, false, ◌≡◌, refl}
+use Rattle.std.specs.Prelude.{ℕ, ◌-◌, Bool, true, false, ◌≡◌, refl, Option, None, Some}
 use Rattle.std.proofs.Common.{true≢false, sym, ap, ◌∙◌}
 use Rattle.arith.specs.Cases.{by_bool}
 use Rattle.memory.specs.declared.Task.{Task}
@@ -8,8 +8,7 @@ use Rattle.state.specs.declared.Device.{Device}
 use Rattle.state.specs.declared.DeviceState.{DeviceState}
 use Rattle.state.specs.declared.DeviceState.TheVariants.{Free, Runs, LockedFor}
 use Rattle.state.specs.declared.Job.{Job}
-use Rattle.state.specs.declared.Suspended.{Suspended}
-use Rattle.state.specs.declared.Suspended.TheVariants as Kept
+use Rattle.state.specs.declared.SuspendedErase.{SuspendedErase}
 use Rattle.rules.proofs.laws.Close.{TallyFits}
 use Rattle.rules.specs.History.{Tally}
 use Rattle.rules.specs.Layout.{Layout, priority_of, layout_of, ranked, layout_at}
@@ -20,9 +19,9 @@ use Rattle.rules.specs.Ranks.{ages_after, ranks_above}
 use Rattle.rules.proofs.laws.Reachable.{StateFits, SuspendedFits, Reachable, left_at}
 
 -- how area a stands to the erase that is suspended
-abbrev low_wait : Layout → ℕ → Suspended → Wait
-low_wait p a Kept.Nothing = none
-low_wait p a (Kept.Erase b q) = wait_behind p a b
+abbrev low_wait : Layout → ℕ → Option SuspendedErase → Wait
+low_wait p a None = none
+low_wait p a (Some s) = wait_behind p a s.area
 
 module _ (p : Layout) (r s : ℕ → ℕ → Bool) where
   -- that a state is reachable does not depend on ranks
@@ -31,9 +30,9 @@ module _ (p : Layout) (r s : ℕ → ℕ → Bool) where
   state_ranked jobs d (LockedFor a) f = tt
   state_ranked jobs d (Runs a q) f = record { pending = f.pending; no_lock = f.no_lock; needed = f.needed; few = f.few }
 
-  suspended_ranked : (jobs : ℕ → Job) (d : ℕ) (x : Suspended) → SuspendedFits (ranked r p) jobs d x → SuspendedFits (ranked s p) jobs d x
-  suspended_ranked jobs d Kept.Nothing f = tt
-  suspended_ranked jobs d (Kept.Erase a q) f =
+  suspended_ranked : (jobs : ℕ → Job) (d : ℕ) (x : Option SuspendedErase) → SuspendedFits (ranked r p) jobs d x → SuspendedFits (ranked s p) jobs d x
+  suspended_ranked jobs d None f = tt
+  suspended_ranked jobs d (Some s) f =
       record { pending = f.pending; erases = f.erases; needed = f.needed; few = f.few; polled = f.polled; can = f.can }
 
   pub reranked : (admits : ℕ → Task → Bool) (c : Core) → Reachable (ranked r p) admits c → Reachable (ranked s p) admits c
@@ -56,10 +55,10 @@ module _ (p : Layout) (r s : ℕ → ℕ → Bool) where
       (wait_on (ranked r p) a x.state ≡ wait_on (ranked s p) a x.state) × (low_wait (ranked r p) a x.suspended ≡ low_wait (ranked s p) a x.suspended)
 
   -- then what is left stays
-  low_ranked : (a limit : ℕ) (x : Suspended) → low_wait (ranked r p) a x ≡ low_wait (ranked s p) a x →
+  low_ranked : (a limit : ℕ) (x : Option SuspendedErase) → low_wait (ranked r p) a x ≡ low_wait (ranked s p) a x →
       low_left (ranked r p) a limit x ≡ low_left (ranked s p) a limit x
-  low_ranked a limit Kept.Nothing e = refl
-  low_ranked a limit (Kept.Erase b q) e = ap (λ w. if_below w (limit - q)) e
+  low_ranked a limit None e = refl
+  low_ranked a limit (Some s) e = ap (λ w. if_below w (limit - s.polls)) e
 
   pub left_ranked : (t a : ℕ) (j : Job) (x : Device) → SameWaits a x → left_of (ranked r p) t a j x ≡ left_of (ranked s p) t a j x
   unfolding left_of later_left
@@ -95,6 +94,6 @@ waits_kept p ages apart admits c r a idle b h = (go (c.devices d).state (r.devic
     go (LockedFor i) k = refl
     go (Runs i q) k = same i k.pending
 
-    low : (x : Suspended) → SuspendedFits (layout_of p) c.jobs d x → low_wait (layout_at p ages) b x ≡ low_wait (layout_at p (ages_after a ages)) b x
-    low Kept.Nothing k = refl
-    low (Kept.Erase i q) k = same i k.pending
+    low : (x : Option SuspendedErase) → SuspendedFits (layout_of p) c.jobs d x → low_wait (layout_at p ages) b x ≡ low_wait (layout_at p (ages_after a ages)) b x
+    low None k = refl
+    low (Some s) k = same s.area k.pending

@@ -1,5 +1,5 @@
 -- What holds of every state that calls lead to, and what a part of a call leaves of it.
-use Rattle.std.specs.Prelude.{ℕ, ◌≤◌, ◌<◌, Bool, true, false, ◌≡◌}
+use Rattle.std.specs.Prelude.{ℕ, ◌≤◌, ◌<◌, Bool, true, false, ◌≡◌, Option, None, Some}
 use Rattle.std.proofs.Common.{◌∙◌, arith}
 use Rattle.memory.specs.declared.Task.{Task}
 use Rattle.segment.specs.Segments.{is_lock, is_erase}
@@ -7,8 +7,7 @@ use Rattle.state.specs.declared.Device.{Device}
 use Rattle.state.specs.declared.DeviceState.{DeviceState}
 use Rattle.state.specs.declared.DeviceState.TheVariants.{Free, Runs, LockedFor}
 use Rattle.state.specs.declared.Job.{Job}
-use Rattle.state.specs.declared.Suspended.{Suspended}
-use Rattle.state.specs.declared.Suspended.TheVariants as Kept
+use Rattle.state.specs.declared.SuspendedErase.{SuspendedErase}
 use Rattle.rules.proofs.laws.Laws.{Laws}
 use Rattle.rules.specs.Layout.{Layout}
 use Rattle.rules.specs.Machine.{Core, is_cancelling, is_pending, due, need, holds}
@@ -38,16 +37,16 @@ StateFits p jobs d (LockedFor a) = Unit {0}
 StateFits p jobs d (Runs a polls) = Running p d a polls (jobs a)
 
 -- and keeps only what fits there
-abbrev pub SuspendedFits : Layout → (ℕ → Job) → ℕ → Suspended → Type 0
-SuspendedFits p jobs d Kept.Nothing = Unit {0}
-SuspendedFits p jobs d (Kept.Erase a polls) = Suspending p d a polls (jobs a)
+abbrev pub SuspendedFits : Layout → (ℕ → Job) → ℕ → Option SuspendedErase → Type 0
+SuspendedFits p jobs d None = Unit {0}
+SuspendedFits p jobs d (Some s) = Suspending p d s.area s.polls (jobs s.area)
 
 -- what runs is not what is suspended
-abbrev pub Apart : DeviceState → Suspended → Type 0
+abbrev pub Apart : DeviceState → Option SuspendedErase → Type 0
 Apart Free s = Unit {0}
 Apart (LockedFor a) s = Unit {0}
-Apart (Runs a polls) Kept.Nothing = Unit {0}
-Apart (Runs a polls) (Kept.Erase b kept) = a ≡ b → ⊥
+Apart (Runs a polls) None = Unit {0}
+Apart (Runs a polls) (Some s) = a ≡ s.area → ⊥
 
 pub record DeviceFits (p : Layout) (jobs : ℕ → Job) (d : ℕ) (x : Device) : Type 0 where
   pub state : StateFits p jobs d x.state

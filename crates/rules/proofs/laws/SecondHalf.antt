@@ -1,5 +1,5 @@
 -- The second half of a round, device by device.
-use Rattle.std.specs.Prelude.{ℕ, suc, ◌≤◌, ◌<◌, Bool, ◌&&◌, ◌≡◌}
+use Rattle.std.specs.Prelude.{ℕ, suc, ◌≤◌, ◌<◌, Bool, ◌&&◌, ◌≡◌, Option, None, Some}
 use Rattle.std.proofs.Math.Bool.{true, false}
 use Rattle.std.proofs.Common.{arith}
 use Rattle.std.proofs.lemmas.Bool.{false≢true}
@@ -12,8 +12,7 @@ use Rattle.segment.specs.Segments.{is_lock, is_erase}
 use Rattle.state.specs.declared.DeviceState.{DeviceState}
 use Rattle.state.specs.declared.DeviceState.TheVariants.{Free, Runs, LockedFor}
 use Rattle.state.specs.declared.Job.{Job}
-use Rattle.state.specs.declared.Suspended.{Suspended}
-use Rattle.state.specs.declared.Suspended.TheVariants as Kept
+use Rattle.state.specs.declared.SuspendedErase.{SuspendedErase}
 use Rattle.rules.proofs.laws.Best.{ready_plain, NotBelow, Ready, best_ready}
 use Rattle.rules.proofs.laws.BestAbove.{best_not_below}
 use Rattle.rules.proofs.laws.Laws.{Laws}
@@ -27,7 +26,7 @@ use Rattle.rules.proofs.laws.Turns.{state_no_worse, ended_follows, both_passes}
 
 module _ (p : Layout) (admits : ℕ → Task → Bool) (L : Laws p admits) (n : ℕ) (h : n < p.devices) (c : Core) (r : Reachable p admits c)
     (served : Served p n c) (polled : (d : ℕ) → n ≤ d → d < p.devices → PolledOn (c.devices d).state) where
-  module _ (b : ℕ) (e : (c.devices n).state ≡ Free) (none_kept : (c.devices n).suspended ≡ Kept.Nothing) (chosen : ready p c n b ≡ true)
+  module _ (b : ℕ) (e : (c.devices n).state ≡ Free) (none_kept : (c.devices n).suspended ≡ None) (chosen : ready p c n b ≡ true)
       (above : (a : ℕ) → a < p.areas → ready p c n a ≡ true → (b ≡ a → ⊥) → p.outranks b a ≡ true) where
     -- area b is pending and needs device n
     waits : (is_pending (c.jobs b) ≡ true) × (need p b (c.jobs b) ≡ n)
@@ -68,7 +67,7 @@ module _ (p : Layout) (admits : ℕ → Task → Bool) (L : Laws p admits) (n : 
   unfolding start_device
   starts = go (c.devices n).state (c.devices n).suspended refl refl
     where
-      choose : (c.devices n).state ≡ Free → (c.devices n).suspended ≡ Kept.Nothing → (x : Choice) → Ready p c n x → ((a : ℕ) → a < p.areas → ready p c n a ≡ true → NotBelow p x a) →
+      choose : (c.devices n).state ≡ Free → (c.devices n).suspended ≡ None → (x : Choice) → Ready p c n x → ((a : ℕ) → a < p.areas → ready p c n a ≡ true → NotBelow p x a) →
           Started p admits p.devices (suc n) c (start_choice n x c)
       choose e u Machine.nobody i k = start_none p admits L n h c r served polled (λ a j g. absurd (k a (r.jobs a j).known ((ready_plain p c n a).1 (j, g))))
       choose e u (Machine.area b) i k = lock (is_lock (c.jobs b).task.kind) refl
@@ -78,10 +77,10 @@ module _ (p : Layout) (admits : ℕ → Task → Bool) (L : Laws p admits) (n : 
           lock false g = start_run b e u i k g
 
       -- an erase, suspended or running, and the choice
-      erase : (b q : ℕ) → Suspending p n b q (c.jobs b) → Started p admits p.devices (suc n) c (set_device n (Runs b q) Kept.Nothing c) →
+      erase : (b q : ℕ) → Suspending p n b q (c.jobs b) → Started p admits p.devices (suc n) c (set_device n (Runs b q) None c) →
           ((a : ℕ) → (is_pending (c.jobs a) ≡ true) × (need p a (c.jobs a) ≡ n) → displaces (c.jobs a).task.kind ≡ true →
           ((i : ℕ) → i < p.areas → ready p c n i ≡ true → (a ≡ i → ⊥) → p.outranks a i ≡ true) →
-          Started p admits p.devices (suc n) c (set_device n (Runs a 0) (Kept.Erase b q) c)) →
+          Started p admits p.devices (suc n) c (set_device n (Runs a 0) (Some (record { area = b; polls = q })) c)) →
           (x : Choice) → Ready p c n x → ((a : ℕ) → a < p.areas → ready p c n a ≡ true → NotBelow p x a) →
           Started p admits p.devices (suc n) c (erase_or_choice n b q x c)
       erase b q f goes over Machine.nobody i k = goes
@@ -100,7 +99,7 @@ module _ (p : Layout) (admits : ℕ → Task → Bool) (L : Laws p admits) (n : 
       not_below : (a : ℕ) → a < p.areas → ready p c n a ≡ true → NotBelow p choice a
       not_below = best_not_below p admits L c n p.areas
 
-      over : (b q : ℕ) → (c.devices n).state ≡ Runs b q → (c.devices n).suspended ≡ Kept.Nothing → (t : Bool) →
+      over : (b q : ℕ) → (c.devices n).state ≡ Runs b q → (c.devices n).suspended ≡ None → (t : Bool) →
           (p.suspends n && is_erase (c.jobs b).task.kind) ≡ t → Started p admits p.devices (suc n) c (start_over p n b q t c)
       over b q e u true g =
           let both = and_elim (p.suspends n) (is_erase (c.jobs b).task.kind) g in
@@ -111,12 +110,12 @@ module _ (p : Layout) (admits : ℕ → Task → Bool) (L : Laws p admits) (n : 
           erase b q f (erase_goes_on p admits L n h c r served polled b q f e u) (λ a w d k. suspends_it p admits L n h c r served polled b q f a w d k e u) choice is_ready not_below
       over b q e u false g = start_none p admits L n h c r served polled (λ a i k. rw e tt)
 
-      go : (x : DeviceState) (s : Suspended) → (c.devices n).state ≡ x → (c.devices n).suspended ≡ s →
+      go : (x : DeviceState) (s : Option SuspendedErase) → (c.devices n).state ≡ x → (c.devices n).suspended ≡ s →
           Started p admits p.devices (suc n) c (start_on p n x s c)
-      go Free Kept.Nothing e u = choose e u choice is_ready not_below
-      go Free (Kept.Erase b q) e u =
-          let f : Suspending p n b q (c.jobs b) = rw u at (r.devices n).suspended in
-          erase b q f (erase_resumes p admits L n h c r served polled b q f e u) (λ a w d k. starts_over p admits L n h c r served polled b q f a w d k e u) choice is_ready not_below
+      go Free None e u = choose e u choice is_ready not_below
+      go Free (Some s) e u =
+          let f : Suspending p n s.area s.polls (c.jobs s.area) = rw u at (r.devices n).suspended in
+          erase s.area s.polls f (erase_resumes p admits L n h c r served polled s.area s.polls f e u) (λ a w d k. starts_over p admits L n h c r served polled s.area s.polls f a w d k e u) choice is_ready not_below
       go (LockedFor b) s e u = start_none p admits L n h c r served polled (λ a i k. rw e tt)
-      go (Runs b q) Kept.Nothing e u = over b q e u (p.suspends n && is_erase (c.jobs b).task.kind) refl
-      go (Runs b q) (Kept.Erase a k) e u = start_none p admits L n h c r served polled (λ i j l. rw e tt)
+      go (Runs b q) None e u = over b q e u (p.suspends n && is_erase (c.jobs b).task.kind) refl
+      go (Runs b q) (Some s) e u = start_none p admits L n h c r served polled (λ i j l. rw e tt)

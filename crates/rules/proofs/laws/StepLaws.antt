@@ -1,6 +1,6 @@
 -- What one step of a round does to one area, and what it leaves alone.
 use Prim.Native.Nat.{ℕ, zero, suc, ◌+◌, ◌≤◌, ◌<◌}
-use Rattle.std.specs.Prelude.{Bool, ◌&&◌, List, [], ◌∷◌, ◌++◌, ◌≢◌, ◌≡◌, ltb, eqb}
+use Rattle.std.specs.Prelude.{Bool, ◌&&◌, List, [], ◌∷◌, ◌++◌, ◌≢◌, ◌≡◌, ltb, eqb, Option, None, Some}
 use Rattle.std.proofs.Math.Bool.{true, false}
 use Rattle.std.proofs.lemmas.Bool.{false≢true}
 use Rattle.std.proofs.Math.Path.{refl, subst}
@@ -14,8 +14,7 @@ use Rattle.segment.specs.Segments.{is_lock, is_erase}
 use Rattle.segment.specs.declared.Segment.{Segment}
 use Rattle.state.specs.declared.Device.{Device}
 use Rattle.state.specs.declared.DeviceState.{DeviceState}
-use Rattle.state.specs.declared.Suspended.{Suspended}
-use Rattle.state.specs.declared.Suspended.TheVariants as Kept
+use Rattle.state.specs.declared.SuspendedErase.{SuspendedErase}
 use Rattle.state.specs.declared.DeviceState.TheVariants.{Free, Runs, LockedFor}
 use Rattle.state.specs.declared.Job.{Job}
 use Rattle.rules.specs.Admission.{admits}
@@ -168,12 +167,12 @@ module _ (P : Core → Type 0) (p : Layout) (d : ℕ) (c : Core) where
       over b q u true = erase b q u (best p c d p.areas)
       over b q u false = stays
 
-      go : (x : DeviceState) (s : Suspended) → (c.devices d).state ≡ x → P (start_on p d x s c)
-      go Free Kept.Nothing e = picked (best p c d p.areas) e (best_ready p c d p.areas)
-      go Free (Kept.Erase b q) e = erase b q (rw e tt) (best p c d p.areas)
+      go : (x : DeviceState) (s : Option SuspendedErase) → (c.devices d).state ≡ x → P (start_on p d x s c)
+      go Free None e = picked (best p c d p.areas) e (best_ready p c d p.areas)
+      go Free (Some s) e = erase s.area s.polls (rw e tt) (best p c d p.areas)
       go (LockedFor a) s e = stays
-      go (Runs b q) Kept.Nothing e = over b q (rw e tt) (p.suspends d && is_erase (c.jobs b).task.kind)
-      go (Runs b q) (Kept.Erase a k) e = stays
+      go (Runs b q) None e = over b q (rw e tt) (p.suspends d && is_erase (c.jobs b).task.kind)
+      go (Runs b q) (Some s) e = stays
 
 -- ready goes by the job alone
 pub same_ready : (p : Layout) (d : ℕ) (x y : Core) (a : ℕ) → y.jobs a ≡ x.jobs a → ready p x d a ≡ true → ready p y d a ≡ true

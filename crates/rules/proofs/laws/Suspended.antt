@@ -1,6 +1,6 @@
 -- What runs over a suspended erase outranks its area, after every list of calls: so the area counts above, and its request does not run.
 use Prim.Native.Nat.{ℕ, zero, suc, ◌+◌, ◌<◌}
-use Rattle.std.specs.Prelude.{Bool, not, ◌&&◌, ◌≢◌, ◌≡◌}
+use Rattle.std.specs.Prelude.{Bool, not, ◌&&◌, ◌≢◌, ◌≡◌, Option, None, Some}
 use Rattle.std.proofs.Math.Bool.{true, false}
 use mathlib.Core.List.{List, [], ◌∷◌}
 use Rattle.std.proofs.Math.Path.{refl}
@@ -15,8 +15,7 @@ use Rattle.segment.specs.Segments.{is_erase, is_lock}
 use Rattle.state.specs.declared.Device.{Device}
 use Rattle.state.specs.declared.DeviceState.{DeviceState}
 use Rattle.state.specs.declared.DeviceState.TheVariants.{Free, Runs, LockedFor}
-use Rattle.state.specs.declared.Suspended.{Suspended}
-use Rattle.state.specs.declared.Suspended.TheVariants as Kept
+use Rattle.state.specs.declared.SuspendedErase.{SuspendedErase}
 use Rattle.rules.specs.Admission.{job_number, release_number, cancel_number, round_number, range_device, admits}
 use Rattle.rules.proofs.laws.Admitted.{release_admitted}
 use Rattle.rules.proofs.laws.FirstCome.{first_come}
@@ -38,11 +37,11 @@ use Rattle.rules.specs.statements.Statements.{NotRunning, SuspendedNotRunning}
 use Rattle.rules.proofs.laws.StepLaws.{accept_case, earlier_turns, later_turns}
 
 -- between the halves of a round what ran over the erase may have ended
-abbrev Between : Layout → DeviceState → Suspended → Type 0
-Between p x Kept.Nothing = Unit {0}
-Between p Free (Kept.Erase b k) = Unit {0}
-Between p (Runs a q) (Kept.Erase b k) = p.outranks a b ≡ true
-Between p (LockedFor a) (Kept.Erase b k) = ⊥
+abbrev Between : Layout → DeviceState → Option SuspendedErase → Type 0
+Between p x None = Unit {0}
+Between p Free (Some s) = Unit {0}
+Between p (Runs a q) (Some s) = p.outranks a s.area ≡ true
+Between p (LockedFor a) (Some s) = ⊥
 
 abbrev BetweenOn : Layout → Device → Type 0
 BetweenOn p x = Between p x.state x.suspended
@@ -50,21 +49,21 @@ BetweenOn p x = Between p x.state x.suspended
 abbrev OverOn : Layout → Device → Type 0
 OverOn p x = Over p x.state x.suspended
 
-over_between : (p : Layout) (x : DeviceState) (s : Suspended) → Over p x s → Between p x s
-over_between p x Kept.Nothing h = tt
-over_between p Free (Kept.Erase b k) h = tt
-over_between p (Runs a q) (Kept.Erase b k) h = h
-over_between p (LockedFor a) (Kept.Erase b k) h = h
+over_between : (p : Layout) (x : DeviceState) (s : Option SuspendedErase) → Over p x s → Between p x s
+over_between p x None h = tt
+over_between p Free (Some s) h = tt
+over_between p (Runs a q) (Some s) h = h
+over_between p (LockedFor a) (Some s) h = h
 
 -- a device takes its answer
 module _ (p : Layout) where
-  free_between : (s : Suspended) → Between p Free s
-  free_between Kept.Nothing = tt
-  free_between (Kept.Erase b k) = tt
+  free_between : (s : Option SuspendedErase) → Between p Free s
+  free_between None = tt
+  free_between (Some s) = tt
 
-  polled_between : (a q r : ℕ) (s : Suspended) → Between p (Runs a q) s → Between p (Runs a r) s
-  polled_between a q r Kept.Nothing h = tt
-  polled_between a q r (Kept.Erase b k) h = h
+  polled_between : (a q r : ℕ) (s : Option SuspendedErase) → Between p (Runs a q) s → Between p (Runs a r) s
+  polled_between a q r None h = tt
+  polled_between a q r (Some s) h = h
 
   take_between : (d : ℕ) (v : Verdict) (c : Core) (k : ℕ) → BetweenOn p (c.devices k) → BetweenOn p ((take_answer p d v c).devices k)
   unfolding take_answer
@@ -99,7 +98,7 @@ module _ (p : Layout) (admits : ℕ → Task → Bool) (L : Laws p admits) (one 
   unfolding start_device
   turn_over c r d = go (c.devices d).state (c.devices d).suspended refl refl
     where
-      starts_job : (c.devices d).suspended ≡ Kept.Nothing → (x : Choice) → OverOn p ((start_choice d x c).devices d)
+      starts_job : (c.devices d).suspended ≡ None → (x : Choice) → OverOn p ((start_choice d x c).devices d)
       starts_job k nobody = rw k tt
       starts_job k (area a) = lock (is_lock (c.jobs a).task.kind)
         where
@@ -107,26 +106,26 @@ module _ (p : Layout) (admits : ℕ → Task → Bool) (L : Laws p admits) (one 
           lock true = rw (upd_same, k) tt
           lock false = rw (upd_same, k) tt
 
-      stays : (x : DeviceState) (s : Suspended) → (c.devices d).state ≡ x → (c.devices d).suspended ≡ s → Over p x s → OverOn p (c.devices d)
+      stays : (x : DeviceState) (s : Option SuspendedErase) → (c.devices d).state ≡ x → (c.devices d).suspended ≡ s → Over p x s → OverOn p (c.devices d)
       stays x s e k h = rw (e, k) h
 
-      over : (b q : ℕ) → (c.devices d).state ≡ Runs b q → (c.devices d).suspended ≡ Kept.Nothing → (t : Bool) →
+      over : (b q : ℕ) → (c.devices d).state ≡ Runs b q → (c.devices d).suspended ≡ None → (t : Bool) →
           (p.suspends d && is_erase (c.jobs b).task.kind) ≡ t → OverOn p ((start_over p d b q t c).devices d)
       over b q e k true f =
           let both = and_elim (p.suspends d) (is_erase (c.jobs b).task.kind) f in
           subst (λ (x : Core). OverOn p (x.devices d)) ((λ i. start_on p d (e i) (k i) c) ∙ ap (λ t. start_over p d b q t c) f)
           (erase_turn p admits L one c r d b q (running (λ i. record { state = e i; suspended = k i }) both.0 both.1)).over
-      over b q e k false f = stays (Runs b q) Kept.Nothing e k tt
+      over b q e k false f = stays (Runs b q) None e k tt
 
-      go : (x : DeviceState) (s : Suspended) → (c.devices d).state ≡ x → (c.devices d).suspended ≡ s → Between p x s → OverOn p ((start_on p d x s c).devices d)
-      go Free Kept.Nothing e k h = starts_job k (best p c d p.areas)
-      go Free (Kept.Erase b q) e k h =
+      go : (x : DeviceState) (s : Option SuspendedErase) → (c.devices d).state ≡ x → (c.devices d).suspended ≡ s → Between p x s → OverOn p ((start_on p d x s c).devices d)
+      go Free None e k h = starts_job k (best p c d p.areas)
+      go Free (Some s) e k h =
           subst (λ (x : Core). OverOn p (x.devices d)) (λ i. start_on p d (e i) (k i) c)
-          (erase_turn p admits L one c r d b q (suspended (λ i. record { state = e i; suspended = k i }))).over
-      go (LockedFor a) Kept.Nothing e k h = stays (LockedFor a) Kept.Nothing e k tt
-      go (LockedFor a) (Kept.Erase b q) e k h = absurd h
-      go (Runs b q) Kept.Nothing e k h = over b q e k (p.suspends d && is_erase (c.jobs b).task.kind) refl
-      go (Runs a q) (Kept.Erase b n) e k h = stays (Runs a q) (Kept.Erase b n) e k h
+          (erase_turn p admits L one c r d s.area s.polls (suspended (λ i. record { state = e i; suspended = k i }))).over
+      go (LockedFor a) None e k h = stays (LockedFor a) None e k tt
+      go (LockedFor a) (Some s) e k h = absurd h
+      go (Runs b q) None e k h = over b q e k (p.suspends d && is_erase (c.jobs b).task.kind) refl
+      go (Runs a q) (Some s) e k h = stays (Runs a q) (Some s) e k h
 
   -- all devices pick
   second_over : (c : Core) → ((k : ℕ) → k < p.devices → Reachable p admits (second_half p k c)) → (k : ℕ) → k < p.devices → BetweenOn p (c.devices k) →
@@ -148,15 +147,15 @@ module _ (p : Plan) (L : (ages : ℕ → ℕ) → AgesApart ages → Laws (layou
     kept_over : (k : Call) (d : ℕ) → (step p k h).core.devices d ≡ h.core.devices d → OverAt d h → OverAt d (step p k h)
     kept_over k d same = subst (λ x. OverAt d h → OverOn (layout_at p (step p k h).ages) x) (sym same) (go (h.core.devices d).state (h.core.devices d).suspended refl refl)
       where
-        go : (x : DeviceState) (s : Suspended) → (h.core.devices d).state ≡ x → (h.core.devices d).suspended ≡ s →
+        go : (x : DeviceState) (s : Option SuspendedErase) → (h.core.devices d).state ≡ x → (h.core.devices d).suspended ≡ s →
             Over (layout_at p h.ages) x s → Over (layout_at p (step p k h).ages) x s
-        go x Kept.Nothing e g o = tt
-        go Free (Kept.Erase b n) e g o = o
-        go (LockedFor a) (Kept.Erase b n) e g o = o
-        go (Runs a q) (Kept.Erase b n) e g o =
+        go x None e g o = tt
+        go Free (Some s) e g o = o
+        go (LockedFor a) (Some s) e g o = o
+        go (Runs a q) (Some s) e g o =
             let run : Running (layout_of p) d a q (h.core.jobs a) = rw e at (f.reachable.devices d).state in
-            let keep : Suspending (layout_of p) d b n (h.core.jobs b) = rw g at (f.reachable.devices d).suspended in
-            (first_come p h f.apart).kept k a b run.pending keep.pending ∙ o
+            let keep : Suspending (layout_of p) d s.area s.polls (h.core.jobs s.area) = rw g at (f.reachable.devices d).suspended in
+            (first_come p h f.apart).kept k a s.area run.pending keep.pending ∙ o
 
     -- both halves of a round
     round_over : (answers : List DeviceAnswer) (m : Memory) → AllOver h → AllOver (round_of p answers m h)
@@ -176,9 +175,9 @@ module _ (p : Plan) (L : (ages : ℕ → ℕ) → AgesApart ages → Laws (layou
         (λ g. unlocked (h.core.devices d).suspended (rw e at (subst (λ n. OverAt n h) (sym g) o)))
         (λ _. o)
       where
-        unlocked : (s : Suspended) → Over (layout_at p h.ages) (LockedFor a) s → Over (layout_at p h.ages) Free s
-        unlocked Kept.Nothing i = tt
-        unlocked (Kept.Erase b n) i = i
+        unlocked : (s : Option SuspendedErase) → Over (layout_at p h.ages) (LockedFor a) s → Over (layout_at p h.ages) Free s
+        unlocked None i = tt
+        unlocked (Some s) i = i
 
     -- every call
     step_over : (k : Call) → AllOver h → AllOver (step p k h)
@@ -211,8 +210,8 @@ module _ (p : Plan) (L : (ages : ℕ → ℕ) → AgesApart ages → Laws (layou
         let known : need ranks b (h.core.jobs b) < p.device_count = need_known (L h.ages f.apart) (r.jobs b keep.pending) in
         go (h.core.devices d).state refl keep.needed (rw e at (o d (rw keep.needed at known))) (rw e at (r.devices d).apart)
       where
-        go : (x : DeviceState) → (h.core.devices d).state ≡ x → need (layout_of p) b (h.core.jobs b) ≡ d → Over (layout_at p h.ages) x (Kept.Erase b n) →
-            Apart x (Kept.Erase b n) → NotRunning p h b
+        go : (x : DeviceState) → (h.core.devices d).state ≡ x → need (layout_of p) b (h.core.jobs b) ≡ d → Over (layout_at p h.ages) x (Some (record { area = b; polls = n })) →
+            Apart x (Some (record { area = b; polls = n })) → NotRunning p h b
         go Free i g v apart = absurd v
         go (LockedFor a) i g v apart = absurd v
         go (Runs a q) i g v apart =

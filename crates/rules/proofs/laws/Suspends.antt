@@ -1,5 +1,5 @@
 -- A device starts a request, also over an erase that it suspends.
-use Rattle.std.specs.Prelude.{ℕ, suc, ◌+◌, ◌-◌, ◌≤◌, ◌<◌, Bool, ◌≡◌, eqb}
+use Rattle.std.specs.Prelude.{ℕ, suc, ◌+◌, ◌-◌, ◌≤◌, ◌<◌, Bool, ◌≡◌, eqb, None, Some}
 use Rattle.std.proofs.Math.Bool.{true, false}
 use Rattle.std.proofs.Common.{true≢false, sym, ◌∙◌, arith, lt-ltb, eq-eqb, ne_eqb}
 use Rattle.std.proofs.lemmas.Bool.{false≢true}
@@ -16,7 +16,6 @@ use Rattle.segment.specs.Segments.{is_lock, is_erase}
 use Rattle.state.specs.declared.Device.{Device}
 use Rattle.state.specs.declared.DeviceState.{DeviceState}
 use Rattle.state.specs.declared.DeviceState.TheVariants.{Free, Runs, LockedFor}
-use Rattle.state.specs.declared.Suspended.TheVariants as Kept
 use Rattle.rules.proofs.laws.Best.{ready_plain}
 use Rattle.rules.proofs.laws.Laws.{Laws}
 use Rattle.rules.specs.Layout.{Layout}
@@ -95,7 +94,7 @@ module _ (p : Layout) (admits : ℕ → Task → Bool) (L : Laws p admits) (n : 
     erase_no_lock Types.Lock e = absurd (false≢true e)
 
     -- so the device can run it
-    runs : DeviceFits p c.jobs n (record { state = Runs b q; suspended = Kept.Nothing })
+    runs : DeviceFits p c.jobs n (record { state = Runs b q; suspended = None })
     runs =
         record {
           state = record { pending = f.pending; no_lock = erase_no_lock (c.jobs b).task.kind f.erases; needed = f.needed; few = f.few };
@@ -104,10 +103,10 @@ module _ (p : Layout) (admits : ℕ → Task → Bool) (L : Laws p admits) (n : 
         }
 
     -- where nothing runs it resumes
-    pub erase_resumes : (c.devices n).state ≡ Free → (c.devices n).suspended ≡ Kept.Erase b q →
-        Started p admits p.devices (suc n) c (set_device n (Runs b q) Kept.Nothing c)
+    pub erase_resumes : (c.devices n).state ≡ Free → (c.devices n).suspended ≡ Some (record { area = b; polls = q }) →
+        Started p admits p.devices (suc n) c (set_device n (Runs b q) None c)
     erase_resumes e k =
-        start_device_lem (record { state = Runs b q; suspended = Kept.Nothing }) tt runs
+        start_device_lem (record { state = Runs b q; suspended = None }) tt runs
         (λ a _ _. record {
           left = rw (e, k)
               (by_behind (λ w. AtMost (record { own = (due_left w (p.limit n - (q + 0)) (p.limit n)).own; below = (due_left w (p.limit n - (q + 0)) (p.limit n)).below + 0 })
@@ -119,20 +118,20 @@ module _ (p : Layout) (admits : ℕ → Task → Bool) (L : Laws p admits) (n : 
         })
 
     -- where it runs, and goes on
-    pub erase_goes_on : (c.devices n).state ≡ Runs b q → (c.devices n).suspended ≡ Kept.Nothing →
-        Started p admits p.devices (suc n) c (set_device n (Runs b q) Kept.Nothing c)
+    pub erase_goes_on : (c.devices n).state ≡ Runs b q → (c.devices n).suspended ≡ None →
+        Started p admits p.devices (suc n) c (set_device n (Runs b q) None c)
     erase_goes_on e k =
-        start_device_lem (record { state = Runs b q; suspended = Kept.Nothing }) tt runs
+        start_device_lem (record { state = Runs b q; suspended = None }) tt runs
         (λ a _ _. record { left = rw (e, k) (omega arith); held = rw (e, k) (λ h. h) })
 
     -- another area starts over it
     module _ (a : ℕ) (waits : (is_pending (c.jobs a) ≡ true) × (need p a (c.jobs a) ≡ n)) (d : displaces (c.jobs a).task.kind ≡ true)
         (above : (i : ℕ) → i < p.areas → ready p c n i ≡ true → (a ≡ i → ⊥) → p.outranks a i ≡ true) where
       -- it was suspended already
-      pub starts_over : (c.devices n).state ≡ Free → (c.devices n).suspended ≡ Kept.Erase b q →
-          Started p admits p.devices (suc n) c (set_device n (Runs a 0) (Kept.Erase b q) c)
+      pub starts_over : (c.devices n).state ≡ Free → (c.devices n).suspended ≡ Some (record { area = b; polls = q }) →
+          Started p admits p.devices (suc n) c (set_device n (Runs a 0) (Some (record { area = b; polls = q })) c)
       starts_over e k =
-          start_device_lem (record { state = Runs a 0; suspended = Kept.Erase b q }) tt (new p n c b q f a waits d (L.limit_some n h))
+          start_device_lem (record { state = Runs a 0; suspended = Some (record { area = b; polls = q }) }) tt (new p n c b q f a waits d (L.limit_some n h))
           (λ i g l. record {
             left =
                 let o = (start_no_worse p (p.limit n) (pick (eqb b i) (p.limit n - q) (p.limit n)) i a
@@ -143,10 +142,10 @@ module _ (p : Layout) (admits : ℕ → Task → Bool) (L : Laws p admits) (n : 
           })
 
       -- it runs, and is suspended
-      pub suspends_it : (c.devices n).state ≡ Runs b q → (c.devices n).suspended ≡ Kept.Nothing →
-          Started p admits p.devices (suc n) c (set_device n (Runs a 0) (Kept.Erase b q) c)
+      pub suspends_it : (c.devices n).state ≡ Runs b q → (c.devices n).suspended ≡ None →
+          Started p admits p.devices (suc n) c (set_device n (Runs a 0) (Some (record { area = b; polls = q })) c)
       suspends_it e k =
-          start_device_lem (record { state = Runs a 0; suspended = Kept.Erase b q }) tt (new p n c b q f a waits d (L.limit_some n h))
+          start_device_lem (record { state = Runs a 0; suspended = Some (record { area = b; polls = q }) }) tt (new p n c b q f a waits d (L.limit_some n h))
           (λ i g l. record {
             left = rw (e, k) (gives i (above i (r.jobs i g).known ((ready_plain p c n i).1 (g, l))));
             held = rw (e, k) (λ v. or_right (eqb a i) (eqb b i) (or_elim (eqb b i) false v (λ z. z) (λ z. absurd (false≢true z))));

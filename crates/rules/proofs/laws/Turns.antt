@@ -1,5 +1,5 @@
 -- What a device does at its turn, in either half of a round or in a call.
-use Rattle.std.specs.Prelude.{ℕ, ◌≤◌, Bool, true, false, ◌≡◌, refl}
+use Rattle.std.specs.Prelude.{ℕ, ◌≤◌, Bool, true, false, ◌≡◌, refl, Option, None, Some}
 use Rattle.std.proofs.Common.{true≢false, sym, ap, subst, ◌∙◌, le_refl, arith}
 use Rattle.arith.specs.Cases.{by_bool, by_eqb, or_left, or_right, or_elim}
 use Rattle.arith.specs.Parts.{upd, upd_same, upd_other, upd_case, same_or}
@@ -10,8 +10,7 @@ use Rattle.state.specs.declared.Device.{Device}
 use Rattle.state.specs.declared.DeviceState.{DeviceState}
 use Rattle.state.specs.declared.DeviceState.TheVariants.{Free, Runs, LockedFor}
 use Rattle.state.specs.declared.Job.{Job}
-use Rattle.state.specs.declared.Suspended.{Suspended}
-use Rattle.state.specs.declared.Suspended.TheVariants as Kept
+use Rattle.state.specs.declared.SuspendedErase.{SuspendedErase}
 use Rattle.rules.specs.Layout.{Layout}
 use Rattle.rules.specs.Machine.{Core, doing, is_pending_status, is_cancelling, is_pending, need, Wait, own, above, below, locked, none, wait_behind, wait_on, runs_for, kept_for, holds}
 use Rattle.rules.proofs.laws.Potential.{AtMost, to_come, closes_on, due_left, due_left_on, try_left, limit_of, fewer_closes, due_falls, left_idle}
@@ -105,17 +104,17 @@ state_keeps p jobs b k d (Runs a q) f h =
     (λ e. subst (λ i. Running p d i q k) e (f q (ap (λ i. Runs i q) (sym e)) (subst (λ i. Running p d i q (jobs i)) (sym e) h)))
     (λ _. h)
 
-pub suspended_keeps : (p : Layout) (jobs : ℕ → Job) (b : ℕ) (k : Job) (d : ℕ) (x : Suspended) →
-    ((q : ℕ) → x ≡ Kept.Erase b q → Suspending p d b q (jobs b) → Suspending p d b q k) → SuspendedFits p jobs d x → SuspendedFits p (upd jobs b k) d x
-suspended_keeps p jobs b k d Kept.Nothing f h = tt
-suspended_keeps p jobs b k d (Kept.Erase a q) f h =
-    upd_case (Suspending p d a q) jobs b a k
-    (λ e. subst (λ i. Suspending p d i q k) e (f q (ap (λ i. Kept.Erase i q) (sym e)) (subst (λ i. Suspending p d i q (jobs i)) (sym e) h)))
+pub suspended_keeps : (p : Layout) (jobs : ℕ → Job) (b : ℕ) (k : Job) (d : ℕ) (x : Option SuspendedErase) →
+    ((q : ℕ) → x ≡ Some (record { area = b; polls = q }) → Suspending p d b q (jobs b) → Suspending p d b q k) → SuspendedFits p jobs d x → SuspendedFits p (upd jobs b k) d x
+suspended_keeps p jobs b k d None f h = tt
+suspended_keeps p jobs b k d (Some s) f h =
+    upd_case (Suspending p d s.area s.polls) jobs b s.area k
+    (λ e. subst (λ i. Suspending p d i s.polls k) e (f s.polls (ap (λ i. Some (record { area = i; polls = s.polls })) (sym e)) (subst (λ i. Suspending p d i s.polls (jobs i)) (sym e) h)))
     (λ _. h)
 
 pub device_keeps : (p : Layout) (jobs : ℕ → Job) (b : ℕ) (k : Job) (d : ℕ) (x : Device) →
     ((q : ℕ) → x.state ≡ Runs b q → Running p d b q (jobs b) → Running p d b q k) →
-    ((q : ℕ) → x.suspended ≡ Kept.Erase b q → Suspending p d b q (jobs b) → Suspending p d b q k) →
+    ((q : ℕ) → x.suspended ≡ Some (record { area = b; polls = q }) → Suspending p d b q (jobs b) → Suspending p d b q k) →
     DeviceFits p jobs d x → DeviceFits p (upd jobs b k) d x
 device_keeps p jobs b k d x f g h =
     record {

@@ -1,6 +1,6 @@
 -- document 00: the three demands; document 02: its requests. Each is stated once, of what is seen of a run after a list of calls: of the rules
 -- (`AllDemands`) and of the program (program/Statements).
-use Rattle.std.specs.Prelude.{ℕ, ◌+◌, ◌≤◌, ◌<◌, Bool, true, false, not, ◌&&◌, List, [], ◌∷◌, ◌++◌, ◌≢◌, ◌⊎◌, ◌≡◌, ltb, eqb, length, get_or}
+use Rattle.std.specs.Prelude.{ℕ, ◌+◌, ◌≤◌, ◌<◌, Bool, true, false, not, ◌&&◌, List, [], ◌∷◌, ◌++◌, ◌≢◌, ◌⊎◌, ◌≡◌, ltb, eqb, length, get_or, Some}
 use Rattle.arith.specs.Bounded.{sum}
 use Rattle.arith.specs.Cases.{pick}
 use Rattle.arith.specs.Parts.{upd}
@@ -16,7 +16,6 @@ use Rattle.segment.specs.Bytes.{joined, mapped_byte, mapped_bytes}
 use Rattle.segment.specs.Segments.{is_lock, no_segment, segment_at, segments_from, spans, own_bound, below_bound}
 use Rattle.segment.specs.declared.Segment.{Segment}
 use Rattle.state.specs.declared.DeviceState.TheVariants.{Free, Runs, LockedFor}
-use Rattle.state.specs.declared.Suspended.TheVariants.{Erase}
 use Rattle.state.specs.declared.Waits.{Waits}
 use Rattle.rules.specs.Admission.{job_number, range_device}
 use Rattle.rules.specs.Answers.{is_round, is_release}
@@ -193,7 +192,7 @@ pub record NotRunning (p : Plan) (h : History) (b : ℕ) : Type 0 where
 
 -- every suspended erase
 abbrev pub SuspendedNotRunning : Plan → History → Type 0
-SuspendedNotRunning p h = (d b polls : ℕ) → (h.core.devices d).suspended ≡ Erase b polls → NotRunning p h b
+SuspendedNotRunning p h = (d b polls : ℕ) → (h.core.devices d).suspended ≡ Some (record { area = b; polls = polls }) → NotRunning p h b
 
 -- "patience times (retries + 1), summed over the job's pieces"
 abbrev pub own_most : Plan → History → ℕ → ℕ

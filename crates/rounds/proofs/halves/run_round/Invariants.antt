@@ -1,6 +1,6 @@
-use Prim.Native.Nat.{◌-◌, ◌≤◌}
 use mathlib.Core.List.{[]}
 use mathlib.Core.Path.{◌≡◌}
+use Prim.Native.Nat.{◌≤◌}
 use lib.ListN.{length}
 use Rattle.arith.specs.Tables.{table}
 use Rattle.machine.specs.laws.Dues.{Due}
@@ -17,29 +17,41 @@ use Rattle.rounds.specs.laws.WearTurns.{worn_for}
 use Rattle.rounds.proofs.halves.run_round.Given as goal
 
 abbrev pub invariant-loop-k : goal.invariant-loop-k
-invariant-loop-k l = (l.plan.device_count ≤ 4) × (l.k ≤ l.plan.device_count) × (l.worn ≡ table 4 (worn_for l.areas l.devices l.dues l.answers) no_worn l.k)
-
-abbrev pub decreases-loop-k : goal.decreases-loop-k
-decreases-loop-k l = l.plan.device_count - l.k
+invariant-loop-k l =
+    record {
+      few_devices : l.plan.device_count ≤ 4;
+      worn : l.worn ≡ table 4 (worn_for l.areas l.devices l.dues l.answers) no_worn l.k;
+    }
 
 abbrev pub invariant-loop-d : goal.invariant-loop-d
-invariant-loop-d l = (l.plan.device_count ≤ 4) × (l.plan.area_count ≤ 8) × (l.plan.sub_area_count ≤ 32) × (l.d ≤ l.plan.device_count) × (l.sub_areas ≡ l.plan.sub_areas) × (l.records ≡ l.plan.areas) × (l.device_records ≡ l.plan.devices)
-    × (length l.image ≡ length l.initial.image) × (length l.store ≡ length l.initial.store) × (length l.areas ≡ 8) × (length l.devices ≡ 4) × (length l.dues ≡ 8)
-    × ((core_in l.areas l.devices, memory_of l.image l.store) ≡ both (take_all l.plan l.answers l.d (lent_to l.initial.areas l.initial.devices (memory_of l.initial.image l.initial.store))))
-    × Due l.plan l.dues (job_in l.areas)
-
-abbrev pub decreases-loop-d : goal.decreases-loop-d
-decreases-loop-d l = l.plan.device_count - l.d
+invariant-loop-d l =
+    record {
+      few_devices : l.plan.device_count ≤ 4;
+      few_areas : l.plan.area_count ≤ 8;
+      few_sub_areas : l.plan.sub_area_count ≤ 32;
+      sub_areas : l.sub_areas ≡ l.plan.sub_areas;
+      records : l.records ≡ l.plan.areas;
+      device_records : l.device_records ≡ l.plan.devices;
+      image_stays : length l.image ≡ length l.initial.image;
+      store_stays : length l.store ≡ length l.initial.store;
+      areas_are : length l.areas ≡ 8;
+      devices_are : length l.devices ≡ 4;
+      dues_are : length l.dues ≡ 8;
+      answered :
+          (core_in l.areas l.devices, memory_of l.image l.store)
+          ≡ both (take_all l.plan l.answers l.d (lent_to l.initial.areas l.initial.devices (memory_of l.initial.image l.initial.store)));
+      due : Due l.plan l.dues (job_in l.areas);
+    }
 
 abbrev pub invariant-loop-e : goal.invariant-loop-e
-invariant-loop-e l = (l.e ≤ l.plan.device_count) × (length l.areas ≡ 8) × (length l.devices ≡ 4)
-    × (core_in l.areas l.devices ≡ second_half (needs_layout l.records l.ages l.plan.area_count l.device_records l.needs) l.e (core_in l.initial.areas l.initial.devices))
-
-abbrev pub decreases-loop-e : goal.decreases-loop-e
-decreases-loop-e l = l.plan.device_count - l.e
+invariant-loop-e l =
+    record {
+      areas_are : length l.areas ≡ 8;
+      devices_are : length l.devices ≡ 4;
+      picked :
+          core_in l.areas l.devices
+          ≡ second_half (needs_layout l.records l.ages l.plan.area_count l.device_records l.needs) l.e (core_in l.initial.areas l.initial.devices);
+    }
 
 abbrev pub invariant-loop-a : goal.invariant-loop-a
-invariant-loop-a l = (l.a ≤ 8) × ClosedTo (area_after (needs_layout l.records l.ages 0 [] l.needs) l.before (core_in l.initial.areas l.devices)) l.initial.areas l.a l.areas
-
-abbrev pub decreases-loop-a : goal.decreases-loop-a
-decreases-loop-a l = 8 - l.a
+invariant-loop-a l = ClosedTo (area_after (needs_layout l.records l.ages 0 [] l.needs) l.before (core_in l.initial.areas l.devices)) l.initial.areas l.a l.areas

@@ -4,7 +4,7 @@ use lib.Dec.{eqb}
 use lib.ListN.{get_or}
 use native.Mathlib.Omega.{arith}
 use Rattle.transfer.specs.PartLaws.{every_window}
-use Rattle.effects.proofs.compare_on.Goals as goal
+use Rattle.effects.proofs.Request.compare_on.Goals as goal
 
 pub same_part-requires : goal.same_part-requires
 same_part-requires c = omega (arith, c.window_part-part.ensures.1)
@@ -13,4 +13,4 @@ pub returns : goal.returns
 returns c =
     let a = c.args in
     let w = c.window_part-part.ensures in
-    c.same_part.ensures ∙ every_window a.store.now _ a.window a.n w.0 w.1 (λ i b. eqb (get_or a.image.now (a.at + i) 0) b)
+    c.same_part.ensures ∙ every_window a.store.now _ a.self.window a.self.n w.0 w.1 (λ i b. eqb (get_or a.image.now (a.self.at + i) 0) b)
