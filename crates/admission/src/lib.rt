@@ -67,7 +67,7 @@ fn last_byte(
     if n < 1 || address.0 < start.0 {
         return None;
     }
-    locate(sub_areas, count, start, area, address, n - 1)
+    locate(&sub_areas[..count], start, area, address, n - 1)
 }
 
 // Question 12: is the range inside the area, and of at least one byte?

@@ -1,5 +1,5 @@
 // The due segments of all pending jobs, found once for a round, and the soundness test with them.
-ghost use Rattle.std.specs.Prelude.{◌≡◌, ◌≤◌};
+ghost use Rattle.std.specs.Prelude.{◌≡◌, ◌≤◌, length};
 ghost use Rattle.arith.specs.Bounded.{every};
 ghost use Rattle.machine.specs.laws.Dues.{due_found, dues_of, fits_in};
 
@@ -13,30 +13,21 @@ use state::{Area, Device, Job};
 
 // Where the next byte of a pending job lies.
 fn locate_due(
-    sub_areas: [SubAreaRecord; 32],
-    count: usize,
+    sub_areas: &[SubAreaRecord],
     start: LogicalAddress,
     area: usize,
     job: Job,
 ) -> Option<FoundByte>
-    requires { count ≤ 32 }
-    ensures { result ≡ due_found sub_areas count start.0 area job }
+    ensures { result ≡ due_found sub_areas.now (length sub_areas.now) start.0 area job }
 {
     if !is_pending(job) {
         return None;
     }
-    locate(
-        sub_areas,
-        count,
-        start,
-        area,
-        job.task.address,
-        job.processed,
-    )
+    locate(sub_areas, start, area, job.task.address, job.processed)
 }
 
-// For a round's questions (`questions`). One copy of the records serves all lookups of the loop; `segment_from` would make one more for each.
-#[tactic(auto, using(crate::specs::laws::Dues::due_index, crate::specs::laws::Dues::due_inside))]
+// For a round's questions (`questions`). The records in use are lent to all lookups of the loop; `segment_from` would copy them for each.
+#[tactic(auto, using(crate::specs::laws::Dues::due_index, crate::specs::laws::Dues::due_inside, crate::specs::laws::Dues::due_front))]
 pub fn due_segments(
     sub_areas: [SubAreaRecord; 32],
     count: usize,
@@ -47,9 +38,10 @@ pub fn due_segments(
     ensures { result ≡ dues_of sub_areas count area_records areas }
 {
     let mut dues = [no_segment(); 8];
+    let in_use = &sub_areas[..count];
     for a in 0..8 {
         let job = areas[a].job;
-        let found = locate_due(sub_areas, count, area_records[a].start, a, job);
+        let found = locate_due(in_use, area_records[a].start, a, job);
         dues[a] = segment_found(job.task, job.processed, sub_areas[index_of(found)], found);
     }
     dues

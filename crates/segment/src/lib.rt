@@ -53,54 +53,33 @@ fn lookup(sub_areas: &[SubAreaRecord], area: usize, offset: u64) -> Option<Found
     None
 }
 
-// The lookup for callers that hold the records by value: it lends those in use.
-fn find_byte(
-    sub_areas: [SubAreaRecord; 32],
-    count: usize,
-    area: usize,
-    offset: u64,
-) -> Option<FoundByte>
-    requires { count ≤ 32 }
-    ensures { result ≡ find count sub_areas 0 area offset }
-{
-    lookup(&sub_areas[..count], area, offset)
-}
-
-// The mapping in an area that starts there: where the byte lies that is so many bytes behind the one at a logical address. It may lie
-// behind those that an address can name.
+// The mapping in an area that starts there, over the records in use, which are lent: where the byte lies that is so many bytes behind
+// the one at a logical address. It may lie behind those that an address can name.
 pub fn locate(
-    sub_areas: [SubAreaRecord; 32],
-    count: usize,
+    sub_areas: &[SubAreaRecord],
     start: LogicalAddress,
     area: usize,
     address: LogicalAddress,
     behind: u32,
 ) -> Option<FoundByte>
-    requires { count ≤ 32 }
-    ensures { result ≡ located sub_areas count start.0 area (address.0 + behind) }
+    ensures { result ≡ located sub_areas.now (length sub_areas.now) start.0 area (address.0 + behind) }
 {
     let first = start.0 as u64;
     let byte = (address.0 as u64) + (behind as u64);
     if byte < first {
         return None;
     }
-    find_byte(sub_areas, count, area, byte - first)
+    lookup(sub_areas, area, byte - first)
 }
 
 // The same for callers that hold the plan.
-#[tactic(auto, unfolding(crate::specs::Mapping::mapped))]
+#[tactic(auto, using(crate::specs::laws::LookupLaws::located_front), unfolding(crate::specs::Mapping::mapped))]
 pub fn map_address(plan: Plan, area: usize, address: LogicalAddress) -> Option<FoundByte>
     requires { (plan.sub_area_count ≤ 32) × (area < 8) }
     ensures { result ≡ mapped plan area address }
 {
-    locate(
-        plan.sub_areas,
-        plan.sub_area_count,
-        plan.areas[area].start,
-        area,
-        address,
-        0,
-    )
+    let sub_areas = &plan.sub_areas[..plan.sub_area_count];
+    locate(sub_areas, plan.areas[area].start, area, address, 0)
 }
 
 pub fn is_lock(kind: JobType) -> bool
@@ -234,7 +213,7 @@ pub fn segment_found(
 }
 
 // The segment of a job of an area that starts there, which is due once `processed` bytes are done.
-#[tactic(auto, using(crate::specs::laws::Found::index_within, crate::specs::laws::Found::offset_inside, crate::specs::laws::Found::if_found))]
+#[tactic(auto, using(crate::specs::laws::Found::index_within, crate::specs::laws::Found::offset_inside, crate::specs::laws::Found::if_found, crate::specs::laws::LookupLaws::located_front))]
 pub fn segment_from(
     sub_areas: [SubAreaRecord; 32],
     count: usize,
@@ -246,7 +225,7 @@ pub fn segment_from(
     requires { count ≤ 32 }
     ensures { result ≡ segment_from sub_areas count start.0 area task processed }
 {
-    let found = locate(sub_areas, count, start, area, task.address, processed);
+    let found = locate(&sub_areas[..count], start, area, task.address, processed);
     segment_found(task, processed, sub_areas[index_of(found)], found)
 }
 

@@ -1,5 +1,5 @@
 -- A round finds the due segments of all pending jobs once: the soundness test with them is question 9.
-use Rattle.std.specs.Prelude.{ℕ, ◌+◌, ◌-◌, ◌≤◌, ◌<◌, Bool, true, false, List, None, ◌≡◌, ltb, get_or}
+use Rattle.std.specs.Prelude.{ℕ, ◌+◌, ◌-◌, ◌≤◌, ◌<◌, Bool, true, false, List, None, ◌≡◌, ltb, get_or, length, take}
 use Rattle.std.specs.declared.option.Option.{Option}
 use Rattle.std.proofs.Common.{true≢false, sym, ap, ◌∙◌}
 use Rattle.std.proofs.Math.Path.{refl, fun_ext}
@@ -16,6 +16,7 @@ use Rattle.plan.specs.declared.records.SubAreaRecord.{SubAreaRecord}
 use Rattle.rules.specs.Machine.{is_pending}
 use Rattle.segment.specs.laws.Found.{index_of, Inside, segment_if, index_within, offset_inside, if_found, segment_from_lem}
 use Rattle.segment.specs.Mapping.{located}
+use Rattle.segment.specs.laws.LookupLaws.{located_front}
 use Rattle.segment.specs.Segments.{no_segment, segment_at, segment_of}
 use Rattle.segment.specs.declared.FoundByte.{FoundByte}
 use Rattle.segment.specs.declared.Segment.{Segment}
@@ -39,6 +40,11 @@ due_of l n records areas a =
 
 unfoldable pub dues_of : List SubAreaRecord → ℕ → List AreaRecord → List Area → List Segment
 dues_of l n records areas = table 8 (due_of l n records areas) no_segment 8
+
+-- by the first n records, lent
+pub due_front : (n : ℕ) (l : List SubAreaRecord) → n ≤ length l → (start a : ℕ) (j : Job) →
+    due_found (take n l) (length (take n l)) start a j ≡ due_found l n start a j
+due_front n l h start a j = ap (λ f. pick (is_pending j) f None) (located_front n l h start a (j.task.address.0 + j.processed))
 
 -- a turn of the loop over the areas
 module _ (l : List SubAreaRecord) (n start a : ℕ) (j : Job) (f : Option FoundByte) (e : f ≡ due_found l n start a j) where

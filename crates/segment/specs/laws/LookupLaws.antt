@@ -1,10 +1,11 @@
 -- The lookup at a record, and over the first records alone.
-use Rattle.std.specs.Prelude.{ℕ, zero, suc, ◌+◌, ◌-◌, ◌≤◌, ◌<◌, List, Some, None, ◌≡◌, ◌≢◌, refl, take}
+use Rattle.std.specs.Prelude.{ℕ, zero, suc, ◌+◌, ◌-◌, ◌≤◌, ◌<◌, List, Some, None, ◌≡◌, ◌≢◌, refl, length, take}
 use Rattle.std.proofs.Common.{arith, eq-eqb, ne_eqb, lt-ltb, le-ltb, get_or-take}
+use Rattle.std.proofs.lemmas.List.{length-take-le}
 use Rattle.plan.specs.Questions.{sub_area_of, size_of}
 use Rattle.plan.specs.Records.{no_sub_area}
 use Rattle.plan.specs.declared.records.SubAreaRecord.{SubAreaRecord}
-use Rattle.segment.specs.Mapping.{find}
+use Rattle.segment.specs.Mapping.{find, located}
 
 -- at record i of n, for the byte at offset x of area a behind the earlier ones
 module _ (n i : ℕ) (h : i < n) (l : List SubAreaRecord) (a x : ℕ) where
@@ -43,3 +44,8 @@ find_front (suc k) i n l a x h =
     let passed : find k (take n l) (i + 1) a y ≡ find k l (i + 1) a y = find_front k (i + 1) n l a y (omega arith) in
     let skipped : find k (take n l) (i + 1) a x ≡ find k l (i + 1) a x = find_front k (i + 1) n l a x (omega arith) in
     rw (here, passed, skipped)
+
+-- a mapping over the first n records, lent, is the mapping by them
+pub located_front : (n : ℕ) (l : List SubAreaRecord) → n ≤ length l → (start a x : ℕ) →
+    located (take n l) (length (take n l)) start a x ≡ located l n start a x
+located_front n l h start a x = rw (length-take-le n l h, find_front n 0 n l a (x - start) (omega arith))
