@@ -1,6 +1,6 @@
 -- Question 15 by the turns of the code's loop: the parts of a lock's range, one behind the other.
 use Rattle.std.specs.Prelude.{ℕ, suc, ◌+◌, ◌-◌, ◌≤◌, ◌<◌, min, true, false, ◌∷◌, ◌≡◌, eqb, length}
-use Rattle.std.proofs.Common.{sym, ◌∙◌}
+use Rattle.std.proofs.Common.{sym, ap, ◌∙◌}
 use native.Mathlib.Omega.{arith}
 use borrow.Author.Tests.{eq-eqb, ne_eqb}
 use Rattle.arith.specs.Plain.{plain}
@@ -15,6 +15,7 @@ use Rattle.rules.specs.Admission.{is_inside, lock_task, on_one_device}
 use Rattle.segment.specs.laws.CutLaws.{segments_end, cut_next}
 use Rattle.segment.specs.laws.MappingLaws.{place_of}
 use Rattle.segment.specs.laws.SegmentLaws.{segment_is}
+use Rattle.segment.specs.declared.Segment.{Segment}
 use Rattle.segment.specs.Segments.{segment_length, segment_at, segments_from, spans, spans_after}
 
 -- a part of a lock's range is all that is left of it in the sub-area
@@ -75,3 +76,44 @@ module _ (p : Plan) (a : ℕ) (t : Task) (lock : t.kind ≡ Lock) (inside : is_i
 pub spans_none : (p : Plan) (a : ℕ) (t : Task) (d x : ℕ) → t.length ≤ x → further_spans p a t d x ≡ 0
 unfolding further_spans spans_after
 spans_none p a t d x h = rw (segments_end (segment_at p a t) t x h)
+
+-- the same of the code's turns: t is the lock of a range inside its area
+module _ (p : Plan) (a : ℕ) (t : Task) (address : LogicalAddress) (n : ℕ) (e : t ≡ lock_task address n) (inside : is_inside p a address n ≡ true) where
+  lock : t.kind ≡ Lock
+  lock = ap (λ (k : Task). k.kind) e
+
+  long : t.length ≡ n
+  long = ap (λ (k : Task). k.length) e
+
+  within : is_inside p a t.address t.length ≡ true
+  within = rw e inside
+
+  -- the part at x has a byte, and ends within the range
+  pub part_in : (x : ℕ) → x < n → (s : Segment) → s ≡ segment_at p a t x → (1 ≤ s.length) × (x + s.length ≤ n)
+  part_in x h s is =
+      let part = part_length p a t lock within x (omega (arith, long, h)) in
+      let l = ap (λ (r : Segment). r.length) is in
+      (omega (arith, l, part.0), omega (arith, l, long, part.1))
+
+  -- on device d, it adds no span
+  pub part_same : (d x : ℕ) → x < n → (s : Segment) → s ≡ segment_at p a t x → s.device ≡ d →
+      further_spans p a t d (x + s.length) ≡ further_spans p a t d x
+  part_same d x h s is on =
+      ap (λ (r : Segment). further_spans p a t d (x + r.length)) is
+      ∙ sym (spans_same p a t lock within d x (omega (arith, long, h)) (ap (λ (r : Segment). r.device) (sym is) ∙ on))
+
+  -- with the first part, where no span was added up to x
+  module _ (first : Segment) (is : first ≡ segment_at p a t 0) (x : ℕ)
+      (same : further_spans p a t first.device x ≡ further_spans p a t first.device first.length) where
+    from_first : further_spans p a t first.device first.length ≡ further_spans p a t (segment_at p a t 0).device (segment_at p a t 0).length
+    from_first = ap (λ (s : Segment). further_spans p a t s.device s.length) is
+
+    -- the part at x is on another device
+    pub part_other : x < n → (s : Segment) → s ≡ segment_at p a t x → (s.device ≡ first.device → ⊥) → false ≡ on_one_device p a address n
+    part_other h s at off =
+        let more = spans_more p a t lock within first.device x (omega (arith, long, h)) (λ q. off (ap (λ (r : Segment). r.device) at ∙ q)) in
+        one_device_no p a t lock within address n e (omega (arith, more, same, from_first))
+
+    -- the range ends at x
+    pub parts_end : n ≤ x → true ≡ on_one_device p a address n
+    parts_end h = one_device_yes p a t lock within address n e (omega (arith, spans_none p a t first.device x (omega (arith, long, h)), same, from_first))
