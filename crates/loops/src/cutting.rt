@@ -12,7 +12,6 @@ use memory::MemAddress;
 use multiples::is_multiple;
 use plan::records::SubAreaRecord;
 use segment::{FoundByte, segment_at, segment_found};
-use transfer::least;
 
 fn one_if(yes: bool) -> u64
     ensures { (result ≡ pick yes 1 0) × (result ≤ 1) }
@@ -27,12 +26,10 @@ fn one_if(yes: bool) -> u64
 pub fn burst_tests(sizes: &[u64], addresses: &[u64]) -> u64
     ensures { result ≡ multiple_count sizes.now addresses.now }
 {
-    let n = least(sizes.len(), addresses.len());
+    let n = sizes.len().min(addresses.len());
     let mut count: u64 = 0;
-    let mut i: usize = 0;
-    while i < n {
+    for i in 0..n {
         count += one_if(is_multiple(sizes[i], addresses[i]));
-        i += 1;
     }
     count
 }

@@ -1,18 +1,12 @@
 // What drivers do with parts of lent memory: the chip image and the job store.
 #![tactic(auto)]
 
-ghost use Rattle.std.specs.Prelude.{◌≡◌, ◌+◌, ◌≤◌, min, eqb, length, get_or, replicate};
+ghost use Rattle.std.specs.Prelude.{◌≡◌, ◌+◌, ◌≤◌, eqb, length, get_or, replicate};
 ghost use Rattle.std.specs.Int.Bits.{bit_and};
 ghost use Rattle.arith.specs.Bounded.{every};
 ghost use Rattle.arith.specs.Listed.{listed};
 ghost use Rattle.arith.specs.Parts.{part, put};
 ghost use Rattle.transfer.specs.PartLaws.{anded};
-
-pub fn least(a: usize, b: usize) -> usize
-    ensures { result ≡ min a b }
-{
-    a.min(b)
-}
 
 // Each byte of dst becomes the bits that it has in common with that of src, as far as both go.
 // stays: of a slice written through `iter_mut().zip(..)` the proof of `anded` knows no byte, so that the index is written here.

@@ -6,7 +6,4 @@ use Rattle.loops.specs.Cutting.{multiple_at}
 use Rattle.loops.proofs.cutting.burst_tests.Given as goal
 
 abbrev pub invariant-loop-i : goal.invariant-loop-i
-invariant-loop-i l = (l.n ≡ min (length l.sizes) (length l.addresses)) × (l.i ≤ l.n) × (l.count ≡ sum (multiple_at l.sizes l.addresses) l.i) × (l.count ≤ l.i)
-
-abbrev pub decreases-loop-i : goal.decreases-loop-i
-decreases-loop-i l = l.n - l.i
+invariant-loop-i l = (l.n ≡ min (length l.sizes) (length l.addresses)) × (l.count ≡ sum (multiple_at l.sizes l.addresses) l.i) × (l.count ≤ l.i)
