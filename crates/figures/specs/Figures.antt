@@ -1,5 +1,7 @@
 -- document 00, demand 3: the figures of a job. They are the definitions that demand 3 uses, with the counts of segments and stretches.
 use Rattle.std.specs.Prelude.{ℕ, Bool, true, false, List, [], ◌∷◌, length}
+use Rattle.std.specs.Option.{unwrap_or}
+use Rattle.std.specs.declared.option.Option.{Option}
 use Rattle.arith.specs.Cases.{pick}
 use Rattle.memory.specs.declared.Task.{Task}
 use Rattle.plan.specs.WellFormed.{WellFormed}
@@ -31,6 +33,10 @@ bounds_of p a t =
       segments = length (segments_of p a t);
       spans = length (spans_of p a t);
     }
+
+-- the number of the last stretch's device; before the first stretch it is 256, which no device has
+abbrev pub device_or_none : Option ℕ → ℕ
+device_or_none last = unwrap_or last 256
 
 -- document 02, 02: "twice (patience less one) per stretch" on chips that can pause
 abbrev pub factor_of : Bool → ℕ

@@ -6,7 +6,7 @@ ghost use Rattle.plan.specs.Questions.{device_of};
 ghost use Rattle.segment.specs.Segments.{span_most, segment_at, segments_from};
 ghost use Rattle.segment.specs.laws.CutLaws.{Cut};
 ghost use Rattle.figures.specs.Figures.{Audited, bounds_of, factor_of};
-ghost use Rattle.figures.specs.Ranges.{ranges_of};
+ghost use Rattle.figures.specs.Ranges.{adjoins, ranges_of};
 ghost use Rattle.figures.specs.laws.BoundLaws.{bounds_more, all_bounds};
 
 use memory::Task;
@@ -14,7 +14,7 @@ use plan::records::{DeviceRecord, Plan};
 use segment::{Segment, is_lock, segment_at};
 
 // What a job has at most as own and below, and how many segments and stretches it has.
-#[derive(Clone, Copy)]
+#[derive(Clone, Copy, Default)]
 pub struct Bounds {
     pub own: u64,
     pub below: u64,
@@ -42,64 +42,41 @@ pub fn record_of(plan: Plan, device: u8) -> DeviceRecord
 pub fn factor_of(suspends: bool) -> u64
     ensures { result ≡ factor_of suspends }
 {
-    if suspends {
-        return 2;
-    }
-    1
+    if suspends { 2 } else { 1 }
 }
 
 // What lower requests can stand before a stretch on the device.
 pub fn span_most(record: DeviceRecord) -> u64
     ensures { (result ≡ span_most «record».suspends «record».poll_limit) × (result ≤ 131068) }
 {
-    let limit = record.poll_limit as u64;
-    if limit < 1 {
-        return 0;
-    }
-    if record.suspends {
-        return 2 * (limit - 1);
-    }
-    limit - 1
+    factor_of(record.suspends) * (record.poll_limit as u64).saturating_sub(1)
 }
 
 // The rounds of a segment with all its tries.
 pub fn try_rounds(limit: u16, retries: u8) -> u64
     ensures { (result ≡ limit * (retries + 1)) × (result ≤ 16776960) }
 {
-    let tries = retries as u64 + 1;
-    limit as u64 * tries
+    limit as u64 * (retries as u64 + 1)
 }
 
 impl Bounds {
-    fn none() -> Bounds
-        ensures { result ≡ record { own = 0; below = 0; segments = 0; spans = 0 } }
-    {
-        Bounds {
-            own: 0,
-            below: 0,
-            segments: 0,
-            spans: 0,
-        }
-    }
-
     // With one segment more, in the stretch of the last one or in the next.
     fn more(self, same: bool, rounds: u64, most: u64) -> Bounds
         requires { (self.own + rounds < 18446744073709551616) × (self.below + most < 18446744073709551616) × (self.segments < 4294967296) × (self.spans < 4294967296) }
         ensures { result ≡ bounds_more same rounds most self }
     {
+        let more = Bounds {
+            own: self.own + rounds,
+            segments: self.segments + 1,
+            ..self
+        };
         if same {
-            return Bounds {
-                own: self.own + rounds,
-                below: self.below,
-                segments: self.segments + 1,
-                spans: self.spans,
-            };
+            return more;
         }
         Bounds {
-            own: self.own + rounds,
             below: self.below + most,
-            segments: self.segments + 1,
             spans: self.spans + 1,
+            ..more
         }
     }
 }
@@ -112,22 +89,22 @@ fn behind(x: u32, segment: Segment) -> u32
     x + segment.length as u32
 }
 
-// The segments one by one; no device has the number 256, so the first one begins a stretch.
+// The segments one by one; before the first one no stretch is begun.
 fn cut_bounds(plan: Plan, area: usize, task: Task) -> Bounds
     requires { Audited plan area task }
     ensures { result ≡ all_bounds plan (segments_from (segment_at plan area task) task 0) }
 {
-    let mut bounds = Bounds::none();
-    let mut last: u16 = 256;
-    let mut x: u32 = 0;
+    let mut bounds = Bounds::default();
+    let mut last = None;
+    let mut x = 0;
     while x < task.length {
         let segment = segment_at(plan, area, task, x);
         let record = record_of(plan, segment.device);
         let rounds = try_rounds(record.poll_limit, segment.retries);
         let most = span_most(record);
-        let same = last == segment.device as u16;
+        let same = last == Some(segment.device);
         bounds = bounds.more(same, rounds, most);
-        last = segment.device as u16;
+        last = Some(segment.device);
         x = behind(x, segment);
     }
     bounds
@@ -137,18 +114,25 @@ pub fn job_bounds(plan: Plan, area: usize, task: Task) -> Bounds
     requires { Audited plan area task }
     ensures { result ≡ bounds_of plan area task }
 {
-    let kind = task.kind;
-    if is_lock(kind) {
+    if is_lock(task.kind) {
         let segment = segment_at(plan, area, task, 0);
-        let record = record_of(plan, segment.device);
         return Bounds {
-            own: 0,
-            below: span_most(record),
-            segments: 0,
+            below: span_most(record_of(plan, segment.device)),
             spans: 1,
+            ..Bounds::default()
         };
     }
     cut_bounds(plan, area, task)
+}
+
+impl Range {
+    // Is the segment on the range's device, and does it begin where the range ends?
+    fn adjoins(self, segment: Segment) -> bool
+        requires { self.start + self.length ≤ 16777216 }
+        ensures { result ≡ adjoins self segment }
+    {
+        self.device == segment.device && self.start + self.length == segment.start.0
+    }
 }
 
 // The first range from byte x of a job on, and where the next one begins.
@@ -165,35 +149,19 @@ pub fn next_range(plan: Plan, area: usize, task: Task, x: u32) -> RangeStep
     ensures le_length { (1 ≤ result.range.length) × (result.range.start + result.range.length ≤ 16777216) }
 {
     let first = segment_at(plan, area, task, x);
-    let device = first.device;
-    let start = first.start.0;
-    let mut length = first.length;
+    let mut range = Range {
+        device: first.device,
+        start: first.start.0,
+        length: first.length,
+    };
     let mut next = behind(x, first);
     while next < task.length {
         let segment = segment_at(plan, area, task, next);
-        if segment.device != device {
-            let range = Range {
-                device,
-                start,
-                length,
-            };
+        if !range.adjoins(segment) {
             return RangeStep { range, next };
         }
-        if segment.start.0 != start + length {
-            let range = Range {
-                device,
-                start,
-                length,
-            };
-            return RangeStep { range, next };
-        }
-        length += segment.length;
+        range.length += segment.length;
         next = behind(next, segment);
     }
-    let range = Range {
-        device,
-        start,
-        length,
-    };
     RangeStep { range, next }
 }

@@ -1,5 +1,6 @@
 -- What the audit says of a plan: each device, each area with its rank and devices, and which of two areas that share a device waits behind which.
-use Rattle.std.specs.Prelude.{ℕ, zero, suc, ◌+◌, ◌-◌, ◌/◌, ◌%◌, Bool, not, ◌&&◌, List, [], ◌∷◌, ◌++◌, ltb, eqb}
+use Rattle.std.specs.Prelude.{ℕ, zero, suc, ◌+◌, ◌-◌, ◌/◌, ◌%◌, Bool, not, ◌&&◌, List, [], ◌∷◌, ◌++◌, Some, None, ltb, eqb}
+use Rattle.std.specs.declared.option.Option.{Option}
 use Rattle.arith.specs.Bounded.{sum}
 use Rattle.arith.specs.Cases.{pick}
 use Rattle.figures.specs.Figures.{factor_of}
@@ -53,6 +54,11 @@ pair_row p a b d =
 
 abbrev pub if_so : Bool → Row → List Row
 if_so shown r = pick shown (r ∷ []) []
+
+-- the row of a place, if it has one
+abbrev pub row_if_any : Option Row → List Row
+row_if_any None = []
+row_if_any (Some r) = r ∷ []
 
 -- The rows have 300 places, each with a row or none: 4 for devices; 5 for each of 8 areas, itself and its devices; 256 for area a behind area b on device d.
 abbrev pub area_place : Plan → ℕ → ℕ → List Row

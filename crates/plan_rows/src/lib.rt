@@ -1,24 +1,18 @@
 // The rows of a plan: what the auditor's program says of it.
 #![tactic(auto)]
 
-ghost use Rattle.std.specs.Prelude.{false, ◌≡◌, ◌+◌, ◌-◌, ◌≤◌, ◌<◌, length};
+ghost use Rattle.std.specs.Prelude.{◌≡◌, ◌+◌, ◌-◌, ◌≤◌, ◌<◌, length};
 ghost use Rattle.plan.specs.WellFormed.{WellFormed};
 ghost use Rattle.rows.specs.Rows.{rows_text};
 ghost use Rattle.rows.specs.Written.{Written};
+ghost use Rattle.texts.specs.Appended.{Appended};
 ghost use Rattle.rules.specs.statements.JobSets.{is_on};
-ghost use Rattle.plan_rows.specs.PlanRows.{device_form, device_row, rank_of, area_form, area_row, on_row, stretch_row, pair_row, if_so, area_place, pair_place, rows_at, plan_rows_from};
+ghost use Rattle.plan_rows.specs.PlanRows.{device_form, device_row, rank_of, area_form, area_row, on_row, stretch_row, pair_row, row_if_any, area_place, pair_place, rows_at, plan_rows_from};
 
 use figures::{factor_of, record_of, span_most};
 use plan::records::Plan;
 use plan_questions::area_size;
 use rows::{Form, PlanForm, Row, print_row};
-
-// A place of the plan's rows: a row, or none.
-#[derive(Clone, Copy)]
-pub struct Place {
-    pub shown: bool,
-    pub row: Row,
-}
 
 // How far the plan's rows are printed: the next place, and where the text ends.
 #[derive(Clone, Copy)]
@@ -27,46 +21,25 @@ pub struct Printed {
     pub end: usize,
 }
 
-// The number below n, and 0 for 0.
-fn before(n: u64) -> u64
-    ensures { result ≡ n - 1 }
-{
-    if n < 1 {
-        return 0;
-    }
-    n - 1
-}
-
 // Has the area a sub-area on the device?
 pub fn is_on(plan: Plan, area: usize, device: usize) -> bool
     requires { plan.sub_area_count ≤ 32 }
     ensures { result ≡ is_on plan area device }
 {
-    let mut i: usize = 0;
-    while i < plan.sub_area_count {
-        let record = plan.sub_areas[i];
-        if record.area as usize == area {
-            if record.device as usize == device {
-                return true;
-            }
-            i += 1;
-            continue;
-        }
-        i += 1;
-    }
-    false
+    plan.sub_areas[..plan.sub_area_count].iter().any(|record| record.area as usize == area
+        && record.device as usize == device)
 }
 
 fn device_form(suspends: bool, clears: bool) -> PlanForm
     ensures { result ≡ device_form suspends clears }
 {
     if clears {
-        return PlanForm::DeviceClears;
+        PlanForm::DeviceClears
+    } else if suspends {
+        PlanForm::DeviceSuspends
+    } else {
+        PlanForm::Device
     }
-    if suspends {
-        return PlanForm::DeviceSuspends;
-    }
-    PlanForm::Device
 }
 
 fn device_row(plan: Plan, device: usize) -> Row
@@ -74,11 +47,10 @@ fn device_row(plan: Plan, device: usize) -> Row
     ensures { result ≡ device_row plan device }
 {
     let record = record_of(plan, device as u8);
-    let form = device_form(record.suspends, record.clears);
     let start = record.start as u64;
-    let last = before(start + record.length as u64);
+    let last = (start + record.length as u64).saturating_sub(1);
     Row {
-        form: Form::OfPlan(form),
+        form: Form::OfPlan(device_form(record.suspends, record.clears)),
         numbers: [
             device as u64,
             start,
@@ -97,27 +69,21 @@ fn rank_of(plan: Plan, area: usize) -> u64
     ensures { result ≡ rank_of plan area }
 {
     let record = plan.areas[area];
-    let mut rank: u64 = 1;
-    let mut i: usize = 0;
-    while i < plan.area_count {
-        let other = plan.areas[i];
-        if record.priority < other.priority {
-            rank += 1;
-            i += 1;
-            continue;
-        }
-        i += 1;
-    }
-    rank
+    let above = plan.areas[..plan.area_count]
+        .iter()
+        .filter(|other| record.priority < other.priority)
+        .count();
+    1 + above as u64
 }
 
 fn area_form(window: u32) -> PlanForm
     ensures { result ≡ area_form window }
 {
     if window == 0 {
-        return PlanForm::AreaNoWindow;
+        PlanForm::AreaNoWindow
+    } else {
+        PlanForm::Area
     }
-    PlanForm::Area
 }
 
 fn area_row(plan: Plan, area: usize) -> Row
@@ -125,19 +91,16 @@ fn area_row(plan: Plan, area: usize) -> Row
     ensures { result ≡ area_row plan area }
 {
     let record = plan.areas[area];
-    let form = area_form(record.window.length);
-    let rank = rank_of(plan, area);
-    let sub_areas = plan.sub_areas;
-    let size = area_size(sub_areas, plan.sub_area_count, area);
+    let size = area_size(plan.sub_areas, plan.sub_area_count, area);
     let start = record.start.0 as u64;
-    let last = before(start + size);
+    let last = (start + size).saturating_sub(1);
     let window = record.window.start as u64;
-    let window_last = before(window + record.window.length as u64);
+    let window_last = (window + record.window.length as u64).saturating_sub(1);
     Row {
-        form: Form::OfPlan(form),
+        form: Form::OfPlan(area_form(record.window.length)),
         numbers: [
             area as u64,
-            rank,
+            rank_of(plan, area),
             record.priority as u64,
             start,
             last,
@@ -157,23 +120,21 @@ fn on_row(area: usize, device: usize) -> Row
     }
 }
 
+#[tactic(auto, unfolding(rules::specs::Layout::layout_of))]
 fn stretch_row(plan: Plan, a: usize, b: usize, device: usize, form: PlanForm) -> Row
     requires { device < 4 }
     ensures { result ≡ stretch_row plan a b device form }
 {
     let record = record_of(plan, device as u8);
-    let factor = factor_of(record.suspends);
-    let most = span_most(record);
-    let patience = record.poll_limit as u64;
     Row {
         form: Form::OfPlan(form),
         numbers: [
             a as u64,
             b as u64,
             device as u64,
-            factor,
-            patience,
-            most,
+            factor_of(record.suspends),
+            record.poll_limit as u64,
+            span_most(record),
             0,
             0,
         ],
@@ -199,70 +160,67 @@ fn pair_row(plan: Plan, a: usize, b: usize, device: usize) -> Row
     stretch_row(plan, a, b, device, PlanForm::PairEqual)
 }
 
-impl Place {
-    // A place with no row: the one that it holds says nothing.
-    fn none() -> Place
-        ensures { result.shown ≡ false }
-    {
-        let row = on_row(0, 0);
-        Place { shown: false, row }
-    }
-}
-
-fn area_place(plan: Plan, area: usize, slot: usize) -> Place
+fn area_place(plan: Plan, area: usize, slot: usize) -> Option<Row>
     requires { WellFormed plan }
-    ensures { if_so result.shown result.row ≡ area_place plan area slot }
+    ensures { row_if_any result ≡ area_place plan area slot }
 {
-    if plan.area_count <= area {
-        return Place::none();
+    if area >= plan.area_count {
+        return None;
     }
-    if slot < 1 {
-        let row = area_row(plan, area);
-        return Place { shown: true, row };
+    if slot == 0 {
+        return Some(area_row(plan, area));
     }
     let device = slot - 1;
-    let shown = is_on(plan, area, device);
-    let row = on_row(area, device);
-    Place { shown, row }
+    if is_on(plan, area, device) {
+        Some(on_row(area, device))
+    } else {
+        None
+    }
 }
 
-fn pair_place(plan: Plan, a: usize, b: usize, device: usize) -> Place
+fn pair_place(plan: Plan, a: usize, b: usize, device: usize) -> Option<Row>
     requires { WellFormed plan × (device < 4) }
-    ensures { if_so result.shown result.row ≡ pair_place plan a b device }
+    ensures { row_if_any result ≡ pair_place plan a b device }
 {
-    if plan.area_count <= a {
-        return Place::none();
+    if a < plan.area_count
+        && b < plan.area_count
+        && a != b
+        && is_on(plan, a, device)
+        && is_on(plan, b, device)
+    {
+        Some(pair_row(plan, a, b, device))
+    } else {
+        None
     }
-    if plan.area_count <= b {
-        return Place::none();
-    }
-    if a == b {
-        return Place::none();
-    }
-    if !is_on(plan, a, device) {
-        return Place::none();
-    }
-    let shown = is_on(plan, b, device);
-    let row = pair_row(plan, a, b, device);
-    Place { shown, row }
 }
 
-fn place_at(plan: Plan, k: usize) -> Place
+#[tactic(auto, unfolding(crate::specs::PlanRows::rows_at))]
+fn place_at(plan: Plan, k: usize) -> Option<Row>
     requires { WellFormed plan × (k < 300) }
-    ensures { if_so result.shown result.row ≡ rows_at plan k }
+    ensures { row_if_any result ≡ rows_at plan k }
 {
     if k < 4 {
         if k < plan.device_count {
-            let row = device_row(plan, k);
-            return Place { shown: true, row };
+            return Some(device_row(plan, k));
         }
-        return Place::none();
+        return None;
     }
     if k < 44 {
         return area_place(plan, (k - 4) / 5, (k - 4) % 5);
     }
     let pair = k - 44;
     pair_place(plan, pair / 32, pair / 4 % 8, pair % 4)
+}
+
+// Prints the row of place k, if it has one.
+fn print_place(plan: Plan, k: usize, out: &mut [u8], at: usize) -> usize
+    requires { WellFormed plan × (k < 300) × (at + 3000 ≤ length out.old) }
+    ensures { (Appended out.old out.new at result (rows_text (rows_at plan k))) × (result ≤ length out.new) }
+{
+    match place_at(plan, k) {
+        Some(row) => print_row(out, at, row),
+        None => at,
+    }
 }
 
 // Prints the rows from place k on, behind the first bytes of the buffer, until all are printed or the next one may not fit.
@@ -272,20 +230,12 @@ pub fn print_plan(plan: Plan, k: usize, out: &mut [u8], at: usize) -> Printed
     ensures k_le_next { (k ≤ result.next) × (result.next ≤ 300) × (result.end ≤ length out.new) }
     ensures out_len_bound { result.next < 300 → length out.new < result.end + 3000 }
 {
-    let mut next = k;
     let mut end = at;
-    while next < 300 {
+    for next in k..300 {
         if out.len() - end < 3000 {
             return Printed { next, end };
         }
-        let place = place_at(plan, next);
-        if place.shown {
-            let row = place.row;
-            end = print_row(out, end, row);
-            next += 1;
-            continue;
-        }
-        next += 1;
+        end = print_place(plan, next, out, end);
     }
-    Printed { next, end }
+    Printed { next: 300, end }
 }

@@ -1,6 +1,9 @@
 -- The bounds of a job, one segment at a time.
 use Rattle.std.specs.Prelude.{ℕ, ◌+◌, ◌-◌, ◌*◌, ◌≤◌, ◌<◌, Bool, true, false, List, [], ◌∷◌, ◌≡◌, refl, eqb, length, get_or}
 use Rattle.std.proofs.Common.{sym, ap, ◌∙◌, mul-le-mul, add-zero, arith, ne_eqb}
+use Rattle.std.specs.Prelude.{Some, None}
+use Rattle.std.specs.Option.{option_eq}
+use Rattle.std.specs.declared.option.Option.{Option}
 use Rattle.arith.specs.Cases.{pick, by_eqb}
 use Rattle.memory.specs.declared.Task.{Task}
 use Rattle.plan.specs.Questions.{device_of}
@@ -11,7 +14,7 @@ use Rattle.segment.specs.Segments.{is_lock, span_most, segment_at, segments_from
 use Rattle.segment.specs.declared.Segment.{Segment}
 use Rattle.segment.specs.laws.CutLaws.{Cut, at_end, segments_end}
 use Rattle.segment.specs.laws.SegmentLaws.{Good, segments_next, segment_good, segment_device}
-use Rattle.figures.specs.Figures.{Audited, bounds_of}
+use Rattle.figures.specs.Figures.{Audited, bounds_of, device_or_none}
 use Rattle.figures.specs.declared.Bounds.{Bounds}
 
 abbrev pub no_bounds : Bounds
@@ -86,6 +89,11 @@ pub lock_bounds : (p : Plan) (a : ℕ) (t : Task) (n : ℕ) → is_lock t.kind �
     record { own = 0; below = n; segments = 0; spans = 1 } ≡ bounds_of p a t
 unfolding bounds_of own_bound below_bound below_sum layout_of
 lock_bounds p a t n e q = rw e (same_bounds refl (omega (arith, q)) refl refl)
+
+-- the stretch goes on where the segment's device is the last one's
+pub same_last : (last : Option ℕ) (d : ℕ) → d < 4 → option_eq eqb last (Some d) ≡ eqb (device_or_none last) d
+same_last None d h = sym (ne_eqb 256 d (λ e. omega (arith, e)))
+same_last (Some e) d h = refl
 
 -- a poll limit of 16 bits and retries of 8
 pub rounds_fit : {a b : ℕ} → a < 65536 → b < 256 → a * (b + 1) ≤ 16776960
