@@ -1,14 +1,15 @@
 // The rows of a job: what the auditor's program says of it, a row at a time.
 #![tactic(auto)]
 
-ghost use Rattle.std.specs.Prelude.{true, false, [], ◌∷◌, ◌≡◌, ℕ, ◌+◌, ◌≤◌, ◌<◌, min, length};
+ghost use Rattle.std.specs.Prelude.{true, false, [], ◌∷◌, ◌≡◌, ◌+◌, ◌≤◌, ◌<◌, min, length, MatchOption};
 ghost use Rattle.figures.specs.Figures.{Audited};
 ghost use Rattle.rows.specs.Rows.{rows_text};
 ghost use Rattle.rows.specs.Written.{Written};
 ghost use Rattle.segment.specs.Segments.{is_lock};
 ghost use Rattle.job_rows.specs.JobRows.{head_form, head_row, refused_row, image_form, image_row, window_form, window_row, stretch_row, segment_row, above_row, locked_row, rounds_row, too_large, rounds_most};
-ghost use Rattle.job_rows.specs.Cursors.{rows_left, AtSegment, AtRow, Ready, is_end, Fits};
-ghost use Rattle.job_rows.specs.laws.JobRowLaws.{StepDone, foot_at, head_step, foot_step};
+ghost use Rattle.job_rows.specs.Cursors.{rows_left, foot_index, AtSegment, AtRow, is_end, Fits};
+ghost use Rattle.job_rows.specs.laws.JobRowLaws.{StepDone, foot_at, behind_foot, head_step, foot_step};
+ghost use Rattle.job_rows.specs.declared.CutPoint.{CutPoint};
 ghost use Rattle.job_rows.specs.declared.Cursor.TheVariants.{Image, Window, Cut, End};
 ghost use Rattle.job_rows.specs.declared.JobFacts.{JobFacts};
 
@@ -20,7 +21,7 @@ use segment::{Segment, is_lock, segment_at};
 
 // What is known of a job: the number that a fresh manager answers, its bounds, and of the jobs of the list what they add to its above and whether one locks a
 // device of its area.
-#[derive(Clone, Copy)]
+#[derive(Clone, Copy, Default)]
 pub struct JobFacts {
     pub number: u8,
     pub bounds: Bounds,
@@ -28,21 +29,35 @@ pub struct JobFacts {
     pub locks: bool,
 }
 
-// Where the rows of a job are: at its head, its refusal, the image range from a byte on, the window, the segment from a byte on behind so many segments and
-// stretches, the last of them on device `last`, at a row of the foot, or at the end.
+// The cut of a job from byte `at` on: so many segments and stretches stand before it, the last stretch on device `last`.
+#[derive(Clone, Copy, Default)]
+pub struct CutPoint {
+    pub at: u32,
+    pub last: Option<u8>,
+    pub segments: u32,
+    pub spans: u32,
+}
+
+// The rows of the foot.
+#[derive(Clone, Copy)]
+pub enum Foot {
+    Counts,
+    Own,
+    Below,
+    Above,
+    Locked,
+    Rounds,
+}
+
+// Where the rows of a job are: at its head, its refusal, the image range from a byte on, the window, a stretch or a segment of its cut, a row of the foot, or at the end.
 #[derive(Clone, Copy)]
 pub enum Cursor {
     Head,
     Refused,
     Image(u32),
     Window,
-    Cut {
-        at: u32,
-        last: u16,
-        segments: u32,
-        spans: u32,
-    },
-    Foot(u8),
+    Cut(CutPoint),
+    Foot(Foot),
     End,
 }
 
@@ -70,32 +85,27 @@ fn head_form(kind: JobType) -> JobForm
 fn head_row(area: usize, task: Task) -> Row
     ensures { result ≡ head_row area task }
 {
-    let kind = task.kind;
-    let form = head_form(kind);
-    let address = task.address;
-    let numbers = [
-        area as u64,
-        address.0 as u64,
-        task.length as u64,
-        0,
-        0,
-        0,
-        0,
-        0,
-    ];
     Row {
-        form: Form::OfJob(form),
-        numbers,
+        form: Form::OfJob(head_form(task.kind)),
+        numbers: [
+            area as u64,
+            task.address.0 as u64,
+            task.length as u64,
+            0,
+            0,
+            0,
+            0,
+            0,
+        ],
     }
 }
 
 fn refused_row(number: u8) -> Row
     ensures { result ≡ refused_row number }
 {
-    let numbers = [number as u64, 0, 0, 0, 0, 0, 0, 0];
     Row {
         form: Form::OfJob(JobForm::Refused),
-        numbers,
+        numbers: [number as u64, 0, 0, 0, 0, 0, 0, 0],
     }
 }
 
@@ -103,13 +113,9 @@ fn image_form(kind: JobType) -> ReachForm
     ensures { result ≡ image_form kind }
 {
     match kind {
-        JobType::Write => ReachForm::ImageChanged,
-        JobType::Erase => ReachForm::ImageChanged,
-        JobType::Read => ReachForm::ImageRead,
-        JobType::Compare => ReachForm::ImageRead,
-        JobType::BlankCheck => ReachForm::ImageRead,
-        JobType::Lock => ReachForm::ImageNone,
-        JobType::NoJob => ReachForm::ImageNone,
+        JobType::Write | JobType::Erase => ReachForm::ImageChanged,
+        JobType::Read | JobType::Compare | JobType::BlankCheck => ReachForm::ImageRead,
+        JobType::Lock | JobType::NoJob => ReachForm::ImageNone,
     }
 }
 
@@ -117,12 +123,10 @@ fn image_row(kind: JobType, range: Range) -> Row
     requires { (1 ≤ range.length) × (range.start + range.length ≤ 16777216) }
     ensures { result ≡ image_row kind range }
 {
-    let form = image_form(kind);
     let last = range.start + range.length - 1;
-    let numbers = [range.device as u64, range.start, last, 0, 0, 0, 0, 0];
     Row {
-        form: Form::OfReach(form),
-        numbers,
+        form: Form::OfReach(image_form(kind)),
+        numbers: [range.device as u64, range.start, last, 0, 0, 0, 0, 0],
     }
 }
 
@@ -130,8 +134,10 @@ fn image_row(kind: JobType, range: Range) -> Row
 fn plain_row(form: Form) -> Row
     ensures { result ≡ record { form = form; numbers = 0 ∷ 0 ∷ 0 ∷ 0 ∷ 0 ∷ 0 ∷ 0 ∷ 0 ∷ [] } }
 {
-    let numbers = [0, 0, 0, 0, 0, 0, 0, 0];
-    Row { form, numbers }
+    Row {
+        form,
+        numbers: [0; 8],
+    }
 }
 
 fn window_form(kind: JobType) -> ReachForm
@@ -139,12 +145,10 @@ fn window_form(kind: JobType) -> ReachForm
 {
     match kind {
         JobType::Read => ReachForm::WindowChanged,
-        JobType::Write => ReachForm::WindowRead,
-        JobType::Compare => ReachForm::WindowRead,
-        JobType::Erase => ReachForm::WindowNone,
-        JobType::BlankCheck => ReachForm::WindowNone,
-        JobType::Lock => ReachForm::WindowNone,
-        JobType::NoJob => ReachForm::WindowNone,
+        JobType::Write | JobType::Compare => ReachForm::WindowRead,
+        JobType::Erase | JobType::BlankCheck | JobType::Lock | JobType::NoJob => {
+            ReachForm::WindowNone
+        }
     }
 }
 
@@ -152,80 +156,68 @@ fn window_row(plan: Plan, area: usize, task: Task) -> Row
     requires { (area < 8) × (1 ≤ task.length) }
     ensures { result ≡ window_row plan area task }
 {
-    let kind = task.kind;
-    let form = window_form(kind);
-    let record = plan.areas[area];
-    let start = record.window.start as u64;
+    let start = plan.areas[area].window.start as u64;
     let last = start + task.length as u64 - 1;
-    let numbers = [start, last, 0, 0, 0, 0, 0, 0];
     Row {
-        form: Form::OfReach(form),
-        numbers,
+        form: Form::OfReach(window_form(task.kind)),
+        numbers: [start, last, 0, 0, 0, 0, 0, 0],
     }
 }
 
+#[tactic(auto, unfolding(rules::specs::Layout::layout_of))]
 fn stretch_row(plan: Plan, n: u64, device: u8) -> Row
     requires { device < 4 }
     ensures { result ≡ stretch_row plan n device }
 {
     let record = record_of(plan, device);
-    let factor = factor_of(record.suspends);
-    let most = span_most(record);
-    let numbers = [
-        n,
-        device as u64,
-        factor,
-        record.poll_limit as u64,
-        most,
-        0,
-        0,
-        0,
-    ];
     Row {
         form: Form::OfReach(ReachForm::Stretch),
-        numbers,
+        numbers: [
+            n,
+            device as u64,
+            factor_of(record.suspends),
+            record.poll_limit as u64,
+            span_most(record),
+            0,
+            0,
+            0,
+        ],
     }
 }
 
+#[tactic(auto, unfolding(rules::specs::Layout::layout_of))]
 fn segment_row(plan: Plan, n: u64, segment: Segment) -> Row
     requires { (segment.device < 4) × (1 ≤ segment.length) × (segment.start.0 + segment.length ≤ 16777216) }
     ensures { result ≡ segment_row plan n segment }
 {
-    let record = record_of(plan, segment.device);
-    let limit = record.poll_limit;
-    let rounds = try_rounds(limit, segment.retries);
+    let limit = record_of(plan, segment.device).poll_limit;
     let start = segment.start.0;
-    let last = start + segment.length - 1;
     let tries = segment.retries as u64 + 1;
-    let numbers = [
-        n,
-        segment.device as u64,
-        start,
-        last,
-        tries,
-        limit as u64,
-        tries,
-        rounds,
-    ];
     Row {
         form: Form::OfReach(ReachForm::Segment),
-        numbers,
+        numbers: [
+            n,
+            segment.device as u64,
+            start,
+            start + segment.length - 1,
+            tries,
+            limit as u64,
+            tries,
+            try_rounds(limit, segment.retries),
+        ],
     }
 }
 
 fn head_step(area: usize, task: Task, facts: JobFacts) -> Step
     ensures { result ≡ head_step area task facts }
 {
-    let row = head_row(area, task);
-    if facts.number == 0 {
-        return Step {
-            row,
-            cursor: Cursor::Image(0),
-        };
-    }
     Step {
-        row,
-        cursor: Cursor::Refused,
+        row: head_row(area, task),
+        cursor: if facts.number == 0 {
+            Cursor::Image(0)
+        } else {
+            Cursor::Refused
+        },
     }
 }
 
@@ -234,27 +226,20 @@ fn image_step(plan: Plan, area: usize, task: Task, x: u32) -> Step
     requires { AtSegment plan area task x }
     ensures { (f : JobFacts) → StepDone plan area task f (Image x) result }
 {
-    let kind = task.kind;
-    if is_lock(kind) {
-        let row = plain_row(Form::OfReach(ReachForm::ImageNone));
+    if is_lock(task.kind) {
         return Step {
-            row,
+            row: plain_row(Form::OfReach(ReachForm::ImageNone)),
             cursor: Cursor::Window,
         };
     }
     let found = next_range(plan, area, task, x);
-    let range = found.range;
-    let row = image_row(kind, range);
-    let next = found.next;
-    if next < task.length {
-        return Step {
-            row,
-            cursor: Cursor::Image(next),
-        };
-    }
     Step {
-        row,
-        cursor: Cursor::Window,
+        row: image_row(task.kind, found.range),
+        cursor: if found.next < task.length {
+            Cursor::Image(found.next)
+        } else {
+            Cursor::Window
+        },
     }
 }
 
@@ -262,74 +247,52 @@ fn window_step(plan: Plan, area: usize, task: Task) -> Step
     requires { Audited plan area task }
     ensures { (f : JobFacts) → StepDone plan area task f Window result }
 {
-    let row = window_row(plan, area, task);
     Step {
-        row,
-        cursor: Cursor::Cut {
-            at: 0,
-            last: 256,
-            segments: 0,
-            spans: 0,
-        },
+        row: window_row(plan, area, task),
+        cursor: Cursor::Cut(CutPoint::default()),
     }
 }
 
 // The stretch of a lock request.
 fn lock_step(plan: Plan, area: usize, task: Task) -> Step
     requires { Audited plan area task × (is_lock task.kind ≡ true) }
-    ensures { (f : JobFacts) (x d n m : ℕ) → StepDone plan area task f (Cut x d n m) result }
+    ensures { (f : JobFacts) (cut : CutPoint) → StepDone plan area task f (Cut cut) result }
 {
     let first = segment_at(plan, area, task, 0);
-    let row = stretch_row(plan, 1, first.device);
     Step {
-        row,
-        cursor: Cursor::Foot(0),
+        row: stretch_row(plan, 1, first.device),
+        cursor: Cursor::Foot(Foot::Counts),
     }
 }
 
 // A stretch before its first segment, or a segment.
-fn cut_step(
-    plan: Plan,
-    area: usize,
-    task: Task,
-    at: u32,
-    last: u16,
-    segments: u32,
-    spans: u32,
-) -> Step
-    requires { AtRow plan area task at last segments spans × (is_lock task.kind ≡ false) }
-    ensures { (f : JobFacts) → StepDone plan area task f (Cut at last segments spans) result }
+fn cut_step(plan: Plan, area: usize, task: Task, cut: CutPoint) -> Step
+    requires { AtRow plan area task cut × (is_lock task.kind ≡ false) }
+    ensures { (f : JobFacts) → StepDone plan area task f (Cut cut) result }
 {
-    let segment = segment_at(plan, area, task, at);
-    let device = segment.device;
-    if last != device as u16 {
-        let row = stretch_row(plan, spans as u64 + 1, device);
+    let segment = segment_at(plan, area, task, cut.at);
+    if cut.last == Some(segment.device) {
+        let next = cut.at + segment.length as u32;
         return Step {
-            row,
-            cursor: Cursor::Cut {
-                at,
-                last: device as u16,
-                segments,
-                spans: spans + 1,
-            },
-        };
-    }
-    let row = segment_row(plan, segments as u64 + 1, segment);
-    let next = at + segment.length as u32;
-    if next < task.length {
-        return Step {
-            row,
-            cursor: Cursor::Cut {
-                at: next,
-                last: device as u16,
-                segments: segments + 1,
-                spans,
+            row: segment_row(plan, cut.segments as u64 + 1, segment),
+            cursor: if next < task.length {
+                Cursor::Cut(CutPoint {
+                    at: next,
+                    segments: cut.segments + 1,
+                    ..cut
+                })
+            } else {
+                Cursor::Foot(Foot::Counts)
             },
         };
     }
     Step {
-        row,
-        cursor: Cursor::Foot(0),
+        row: stretch_row(plan, cut.spans as u64 + 1, segment.device),
+        cursor: Cursor::Cut(CutPoint {
+            last: Some(segment.device),
+            spans: cut.spans + 1,
+            ..cut
+        }),
     }
 }
 
@@ -337,40 +300,36 @@ fn cut_step(
 pub fn figure_sum(a: u64, b: u64) -> u64
     ensures { result ≡ min (a + b) too_large }
 {
-    if 18446744073709551615 - b < a {
-        return 18446744073709551615;
-    }
-    a + b
+    a.saturating_add(b)
 }
 
 fn above_row(facts: JobFacts) -> Row
     ensures { result ≡ above_row facts }
 {
-    if facts.above < 18446744073709551615 {
-        let numbers = [facts.above, 0, 0, 0, 0, 0, 0, 0];
-        return Row {
-            form: Form::OfWait(WaitForm::Above),
-            numbers,
-        };
+    if facts.above == u64::MAX {
+        return plain_row(Form::OfWait(WaitForm::AboveOver));
     }
-    plain_row(Form::OfWait(WaitForm::AboveOver))
+    Row {
+        form: Form::OfWait(WaitForm::Above),
+        numbers: [facts.above, 0, 0, 0, 0, 0, 0, 0],
+    }
 }
 
 fn locked_row(facts: JobFacts) -> Row
     ensures { result ≡ locked_row facts }
 {
-    if facts.locks {
-        return plain_row(Form::OfWait(WaitForm::LockedSome));
-    }
-    plain_row(Form::OfWait(WaitForm::LockedNone))
+    plain_row(Form::OfWait(if facts.locks {
+        WaitForm::LockedSome
+    } else {
+        WaitForm::LockedNone
+    }))
 }
 
 fn rounds_most(facts: JobFacts) -> u64
     ensures { result ≡ rounds_most facts }
 {
-    let bounds = facts.bounds;
-    let running = figure_sum(bounds.own, facts.above);
-    let waiting = figure_sum(running, bounds.below);
+    let running = figure_sum(facts.bounds.own, facts.above);
+    let waiting = figure_sum(running, facts.bounds.below);
     figure_sum(waiting, 1)
 }
 
@@ -379,139 +338,101 @@ fn rounds_row(facts: JobFacts) -> Row
 {
     let bounds = facts.bounds;
     let most = rounds_most(facts);
-    if facts.locks {
+    if facts.locks || most == u64::MAX {
         return plain_row(Form::OfWait(WaitForm::RoundsNone));
     }
-    if most < 18446744073709551615 {
-        let numbers = [bounds.own, facts.above, bounds.below, most, 0, 0, 0, 0];
-        return Row {
-            form: Form::OfWait(WaitForm::Rounds),
-            numbers,
-        };
+    Row {
+        form: Form::OfWait(WaitForm::Rounds),
+        numbers: [bounds.own, facts.above, bounds.below, most, 0, 0, 0, 0],
     }
-    plain_row(Form::OfWait(WaitForm::RoundsNone))
 }
 
-fn foot_row(facts: JobFacts, i: u8) -> Row
-    requires { i < 6 }
-    ensures { result ≡ foot_at facts i }
+fn foot_row(facts: JobFacts, foot: Foot) -> Row
+    ensures { result ≡ foot_at facts (foot_index foot) }
 {
     let bounds = facts.bounds;
-    if i == 0 {
-        let numbers = [bounds.segments, bounds.spans, 0, 0, 0, 0, 0, 0];
-        return Row {
+    match foot {
+        Foot::Counts => Row {
             form: Form::OfReach(ReachForm::Counts),
-            numbers,
-        };
-    }
-    if i == 1 {
-        let numbers = [bounds.own, 0, 0, 0, 0, 0, 0, 0];
-        return Row {
+            numbers: [bounds.segments, bounds.spans, 0, 0, 0, 0, 0, 0],
+        },
+        Foot::Own => Row {
             form: Form::OfWait(WaitForm::Own),
-            numbers,
-        };
-    }
-    if i == 2 {
-        let numbers = [bounds.below, 0, 0, 0, 0, 0, 0, 0];
-        return Row {
+            numbers: [bounds.own, 0, 0, 0, 0, 0, 0, 0],
+        },
+        Foot::Below => Row {
             form: Form::OfWait(WaitForm::Below),
-            numbers,
-        };
+            numbers: [bounds.below, 0, 0, 0, 0, 0, 0, 0],
+        },
+        Foot::Above => above_row(facts),
+        Foot::Locked => locked_row(facts),
+        Foot::Rounds => rounds_row(facts),
     }
-    if i == 3 {
-        return above_row(facts);
-    }
-    if i == 4 {
-        return locked_row(facts);
-    }
-    rounds_row(facts)
 }
 
-fn foot_step(facts: JobFacts, i: u8) -> Step
-    requires { i < 6 }
-    ensures { result ≡ foot_step facts i }
+// Where the next row is.
+fn behind_foot(foot: Foot) -> Cursor
+    ensures { result ≡ behind_foot foot }
 {
-    let row = foot_row(facts, i);
-    if i < 5 {
-        return Step {
-            row,
-            cursor: Cursor::Foot(i + 1),
-        };
+    match foot {
+        Foot::Counts => Cursor::Foot(Foot::Own),
+        Foot::Own => Cursor::Foot(Foot::Below),
+        Foot::Below => Cursor::Foot(Foot::Above),
+        Foot::Above => Cursor::Foot(Foot::Locked),
+        Foot::Locked => Cursor::Foot(Foot::Rounds),
+        Foot::Rounds => Cursor::End,
     }
+}
+
+fn foot_step(facts: JobFacts, foot: Foot) -> Step
+    ensures { result ≡ foot_step facts foot }
+{
     Step {
-        row,
-        cursor: Cursor::End,
+        row: foot_row(facts, foot),
+        cursor: behind_foot(foot),
     }
 }
 
 pub fn is_over(cursor: Cursor) -> bool
     ensures { result ≡ is_end cursor }
 {
-    match cursor {
-        Cursor::End => true,
-        Cursor::Head => false,
-        Cursor::Refused => false,
-        Cursor::Image(_) => false,
-        Cursor::Window => false,
-        Cursor::Cut {
-            at: _,
-            last: _,
-            segments: _,
-            spans: _,
-        } => false,
-        Cursor::Foot(_) => false,
-    }
+    matches!(cursor, Cursor::End)
 }
 
 // A lock request has one stretch and no segment.
-fn segment_step(
-    plan: Plan,
-    area: usize,
-    task: Task,
-    at: u32,
-    last: u16,
-    segments: u32,
-    spans: u32,
-) -> Step
-    requires { AtRow plan area task at last segments spans }
-    ensures { (f : JobFacts) → StepDone plan area task f (Cut at last segments spans) result }
+fn segment_step(plan: Plan, area: usize, task: Task, cut: CutPoint) -> Step
+    requires { AtRow plan area task cut }
+    ensures { (f : JobFacts) → StepDone plan area task f (Cut cut) result }
 {
-    let kind = task.kind;
-    if is_lock(kind) {
-        return lock_step(plan, area, task);
+    if is_lock(task.kind) {
+        lock_step(plan, area, task)
+    } else {
+        cut_step(plan, area, task, cut)
     }
-    cut_step(plan, area, task, at, last, segments, spans)
 }
 
 fn refused_step(facts: JobFacts) -> Step
     ensures { result ≡ record { row = refused_row facts.number; cursor = End } }
 {
-    let row = refused_row(facts.number);
     Step {
-        row,
+        row: refused_row(facts.number),
         cursor: Cursor::End,
     }
 }
 
-// The row at a cursor, and where the next one is.
-fn job_step(plan: Plan, area: usize, task: Task, facts: JobFacts, cursor: Cursor) -> Step
-    requires { Ready plan area task facts cursor }
-    ensures { StepDone plan area task facts cursor result }
+// The row at a cursor, and where the next one is; none at the end.
+fn job_step(plan: Plan, area: usize, task: Task, facts: JobFacts, cursor: Cursor) -> Option<Step>
+    requires { Fits plan area task facts cursor }
+    ensures { MatchOption result (is_end cursor ≡ true) (λ step. StepDone plan area task facts cursor step) }
 {
     match cursor {
-        Cursor::Head => head_step(area, task, facts),
-        Cursor::Refused => refused_step(facts),
-        Cursor::Image(x) => image_step(plan, area, task, x),
-        Cursor::Window => window_step(plan, area, task),
-        Cursor::Cut {
-            at,
-            last,
-            segments,
-            spans,
-        } => segment_step(plan, area, task, at, last, segments, spans),
-        Cursor::Foot(i) => foot_step(facts, i),
-        // never: there a row is left
-        Cursor::End => refused_step(facts),
+        Cursor::Head => Some(head_step(area, task, facts)),
+        Cursor::Refused => Some(refused_step(facts)),
+        Cursor::Image(x) => Some(image_step(plan, area, task, x)),
+        Cursor::Window => Some(window_step(plan, area, task)),
+        Cursor::Cut(cut) => Some(segment_step(plan, area, task, cut)),
+        Cursor::Foot(foot) => Some(foot_step(facts, foot)),
+        Cursor::End => None,
     }
 }
 
@@ -540,13 +461,13 @@ pub fn print_job(
     let mut next = cursor;
     let mut end = at;
     while end + 3000 <= out.len() {
-        if is_over(next) {
-            return Printed { cursor: next, end };
+        match job_step(plan, area, task, facts, next) {
+            None => return Printed { cursor: next, end },
+            Some(step) => {
+                end = print_row(out, end, step.row);
+                next = step.cursor;
+            }
         }
-        let step = job_step(plan, area, task, facts, next);
-        let row = step.row;
-        next = step.cursor;
-        end = print_row(out, end, row);
     }
     Printed { cursor: next, end }
 }

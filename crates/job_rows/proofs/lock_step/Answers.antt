@@ -1,10 +1,8 @@
-use Rattle.job_rows.specs.laws.JobRowLaws.{lock_done}
 use Rattle.figures.specs.laws.BoundLaws.{device_few}
 use Rattle.segment.specs.laws.CutLaws.{at_start}
 use Rattle.job_rows.proofs.lock_step.Goals as goal
 
-pub stretch_row-row-requires : goal.stretch_row-row-requires
-stretch_row-row-requires c = let a = c.args in device_few a.plan a.area a.task c.requires.0 0 at_start c.requires.0.job.length_some c.segment_at-first.result c.segment_at-first.ensures
-
-pub returns : goal.returns
-returns c = λ f x d n m. rw (c.stretch_row-row.ensures, c.segment_at-first.ensures) (lock_done _ _ _ f c.requires.1 x d n m)
+pub stretch_row-requires : goal.stretch_row-requires
+stretch_row-requires c =
+    let a = c.args in
+    device_few a.plan a.area a.task c.requires.0 0 at_start c.requires.0.job.length_some c.segment_at-first.result c.segment_at-first.ensures
