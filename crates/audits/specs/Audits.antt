@@ -24,29 +24,32 @@ use Rattle.session.specs.AllLines.{lines_in, lines_of}
 use Rattle.session.specs.declared.play.PlainCall.{PlainCall}
 use Rattle.session.specs.declared.play.PlainCall.TheVariants as Plain
 use Rattle.session.specs.laws.PlayLaws.{plain_of}
-use Rattle.audits.specs.declared.JobLine.{JobLine}
-use Rattle.audits.specs.declared.JobLine.TheVariants.{NoJob, Job}
+use Rattle.audits.specs.declared.ListedJob.{ListedJob}
 use Rattle.audits.specs.declared.fill.Place.{Place}
+
+-- the job of a line, if it is one
+abbrev pub JobLine : Type 0
+JobLine = Option ListedJob
 
 -- "type area address length" is a job; every other line, also a release, a cancel, job info or a round, is none
 abbrev pub job_of_call : PlainCall → JobLine
-job_of_call (Plain.Job a t) = Job a t
-job_of_call (Plain.Release t) = NoJob
-job_of_call (Plain.Cancel a) = NoJob
+job_of_call (Plain.Job a t) = Some (record { area = a; task = t })
+job_of_call (Plain.Release t) = None
+job_of_call (Plain.Cancel a) = None
 
 abbrev pub job_of_line : Option Line → JobLine
 job_of_line (Some (Call x)) = job_of_call (plain_of x)
-job_of_line None = NoJob
-job_of_line (Some (Info a)) = NoJob
-job_of_line (Some (Round a b c d)) = NoJob
+job_of_line None = None
+job_of_line (Some (Info a)) = None
+job_of_line (Some (Round a b c d)) = None
 
 -- the job of a line's bytes, for a plan with so many devices
 abbrev pub job_in : ℕ → List ℕ → JobLine
 job_in devices l = job_of_line (line_of devices l)
 
 abbrev pub with_job : JobLine → List AreaJob → List AreaJob
-with_job NoJob js = js
-with_job (Job a t) js = record { area = a; task = t } ∷ js
+with_job None js = js
+with_job (Some j) js = record { area = j.area; task = j.task } ∷ js
 
 -- the jobs of the lines
 unfoldable pub jobs_in : ℕ → List (List ℕ) → List AreaJob
@@ -80,8 +83,8 @@ lines_from input at = lines_in true (cut_from 10 input at)
 
 -- what is said of a line
 abbrev pub rows_of_job : Manager → List AreaJob → JobLine → List Row
-rows_of_job m js NoJob = unreadable_row ∷ []
-rows_of_job m js (Job a t) = job_rows m.plan a t (facts_of m js a t)
+rows_of_job m js None = unreadable_row ∷ []
+rows_of_job m js (Some j) = job_rows m.plan j.area j.task (facts_of m js j.area j.task)
 
 unfoldable pub rows_of_lines : Manager → List AreaJob → List (List ℕ) → List Row
 rows_of_lines m js [] = []
@@ -93,8 +96,8 @@ audit_rows m ls = plan_rows m.plan ++ rows_of_lines m (jobs_in m.plan.device_cou
 
 -- the rows of a line that are still to be printed
 abbrev pub line_left : Plan → JobLine → JobFacts → Cursor → List Row
-line_left p NoJob f c = pick (is_end c) [] (unreadable_row ∷ [])
-line_left p (Job a t) f c = rows_left p a t f c
+line_left p None f c = pick (is_end c) [] (unreadable_row ∷ [])
+line_left p (Some j) f c = rows_left p j.area j.task f c
 
 -- those of the whole audit: of the plan, of the line in work, and of the lines behind it
 abbrev pub audit_left : Manager → List ℕ → Place → List Row

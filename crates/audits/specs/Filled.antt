@@ -1,5 +1,5 @@
 -- The audit printed in parts: where it is, and what is promised of each part.
-use Rattle.std.specs.Prelude.{ℕ, ◌+◌, ◌≤◌, ◌<◌, Bool, true, false, List, [], ◌≡◌, ltb, leb, length}
+use Rattle.std.specs.Prelude.{Some, None, ℕ, ◌+◌, ◌≤◌, ◌<◌, Bool, true, false, List, [], ◌≡◌, ltb, leb, length}
 use Rattle.arith.specs.Cases.{pick}
 use Rattle.job_rows.specs.Cursors.{is_end, Fits}
 use Rattle.job_rows.specs.declared.Cursor.{Cursor}
@@ -9,15 +9,13 @@ use Rattle.manager.specs.declared.Manager.{Manager}
 use Rattle.plan.specs.declared.records.Plan.{Plan}
 use Rattle.rows.specs.Rows.{rows_text}
 use Rattle.rows.specs.Written.{Written}
-use Rattle.audits.specs.Audits.{refused_facts, audit_left}
-use Rattle.audits.specs.declared.JobLine.{JobLine}
-use Rattle.audits.specs.declared.JobLine.TheVariants.{NoJob, Job}
+use Rattle.audits.specs.Audits.{JobLine, refused_facts, audit_left}
 use Rattle.audits.specs.declared.fill.Filled.{Filled}
 use Rattle.audits.specs.declared.fill.Place.{Place}
 
 -- before the first row
 abbrev pub first_place : Place
-first_place = record { rows = 0; job = NoJob; facts = refused_facts 0; cursor = End; next = 0 }
+first_place = record { rows = 0; job = None; facts = refused_facts 0; cursor = End; next = 0 }
 
 -- nothing is left of an input of n bytes
 abbrev pub is_finished : Place → ℕ → Bool
@@ -25,8 +23,8 @@ is_finished s n = pick (ltb s.rows 300) false (pick (is_end s.cursor) (leb n s.n
 
 -- the line's rows can be gone on with
 abbrev pub LineFits : Plan → JobLine → JobFacts → Cursor → Type 0
-LineFits p NoJob f c = true ≡ true
-LineFits p (Job a t) f c = Fits p a t f c
+LineFits p None f c = true ≡ true
+LineFits p (Some j) f c = Fits p j.area j.task f c
 
 -- a place of the plan's rows, and a line that can be gone on with
 pub record PlaceFits (m : Manager) (s : Place) : Type 0 where

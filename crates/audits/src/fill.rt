@@ -1,17 +1,15 @@
 // The audit printed into a lent buffer, as far as its rows have room.
-ghost use Rattle.std.specs.Prelude.{true, false, not, List, ◌≡◌, ◌+◌, ◌≤◌, ◌<◌, length};
+ghost use Rattle.std.specs.Prelude.{None, true, false, List, ◌≡◌, ◌+◌, ◌≤◌, ◌<◌, length};
 ghost use Rattle.job_rows.specs.Cursors.{is_end};
 ghost use Rattle.rules.specs.statements.JobSets.{AreaJob};
 ghost use Rattle.session.specs.AllLines.{lines_of};
 ghost use Rattle.audits.specs.Audits.{jobs_in, refused_facts};
-ghost use Rattle.audits.specs.declared.JobLine.TheVariants.{NoJob};
 ghost use Rattle.audits.specs.Filled.{first_place, is_finished, LineFits, PlaceFits, FilledTo};
 ghost use Rattle.audits.specs.laws.FillLaws.{LineDone, line_facts};
 ghost use Rattle.audits.specs.laws.LoadLaws.{Loaded};
 ghost use Rattle.audits.specs.laws.TableLaws.{Tabled};
 
-use crate::{JobLine, Table, job_facts, next_job, unreadable_row};
-use figures::Bounds;
+use crate::{ListedJob, Table, job_facts, next_job, unreadable_row};
 use job_rows::{Cursor, JobFacts, Printed, is_over, print_job};
 use manager::Manager;
 use plan::records::Plan;
@@ -22,27 +20,10 @@ use rows::print_row;
 #[derive(Clone, Copy)]
 pub struct Place {
     pub rows: usize,
-    pub job: JobLine,
+    pub job: Option<ListedJob>,
     pub facts: JobFacts,
     pub cursor: Cursor,
     pub next: usize,
-}
-
-// The facts of a line that is no job.
-fn blank_facts() -> JobFacts
-    ensures { result ≡ refused_facts 0 }
-{
-    JobFacts {
-        number: 0,
-        bounds: Bounds {
-            own: 0,
-            below: 0,
-            segments: 0,
-            spans: 0,
-        },
-        above: 0,
-        locks: false,
-    }
 }
 
 impl Place {
@@ -50,11 +31,10 @@ impl Place {
     pub fn first() -> Place
         ensures { result ≡ first_place }
     {
-        let facts = blank_facts();
         Place {
             rows: 0,
-            job: JobLine::NoJob,
-            facts,
+            job: None,
+            facts: JobFacts::default(),
             cursor: Cursor::End,
             next: 0,
         }
@@ -70,7 +50,7 @@ fn print_unreadable(
     at: usize,
 ) -> Printed
     requires { at ≤ length out.old }
-    ensures { LineDone plan NoJob facts cursor out.old out.new at result }
+    ensures { LineDone plan None facts cursor out.old out.new at result }
 {
     if is_over(cursor) {
         return Printed { cursor, end: at };
@@ -78,28 +58,16 @@ fn print_unreadable(
     if out.len() - at < 3000 {
         return Printed { cursor, end: at };
     }
-    let row = unreadable_row();
-    let end = print_row(out, at, row);
     Printed {
         cursor: Cursor::End,
-        end,
+        end: print_row(out, at, unreadable_row()),
     }
-}
-
-// Is a row of the line left?
-fn is_begun(cursor: Cursor) -> bool
-    ensures { result ≡ not (is_end cursor) }
-{
-    if is_over(cursor) {
-        return false;
-    }
-    true
 }
 
 // The rows of a line.
 fn print_line(
     plan: Plan,
-    job: JobLine,
+    job: Option<ListedJob>,
     facts: JobFacts,
     cursor: Cursor,
     out: &mut [u8],
@@ -109,20 +77,18 @@ fn print_line(
     ensures { LineDone plan job facts cursor out.old out.new at result }
 {
     match job {
-        JobLine::NoJob => print_unreadable(plan, facts, cursor, out, at),
-        JobLine::Job { area, task } => {
-            print_job(plan, area as usize, task, facts, cursor, out, at)
-        }
+        None => print_unreadable(plan, facts, cursor, out, at),
+        Some(job) => print_job(plan, job.area as usize, job.task, facts, cursor, out, at),
     }
 }
 
-fn facts_of(manager: Manager, table: Table, job: JobLine) -> JobFacts
+fn facts_of(manager: Manager, table: Table, job: Option<ListedJob>) -> JobFacts
     requires { Loaded manager }
     ensures { (js : List AreaJob) → Tabled manager js table → result ≡ line_facts manager js job }
 {
     match job {
-        JobLine::NoJob => blank_facts(),
-        JobLine::Job { area, task } => job_facts(manager, table, area as usize, task),
+        None => JobFacts::default(),
+        Some(job) => job_facts(manager, table, job.area as usize, job.task),
     }
 }
 
@@ -146,41 +112,27 @@ fn fill_lines(
     requires place_fits { PlaceFits manager place × (place.rows ≡ 300) × (at ≤ length out.old) × (is_end place.cursor ≡ false → length out.old < at + 3000) }
     ensures { FilledTo manager input.now place out.old out.new at result }
 {
-    let plan = manager.plan;
-    let mut job = place.job;
-    let mut facts = place.facts;
-    let mut cursor = place.cursor;
-    let mut next = place.next;
+    let mut reached = place;
     let mut end = at;
-    while next < input.len() {
-        if is_begun(cursor) {
-            let reached = Place {
-                rows: place.rows,
-                job,
-                facts,
-                cursor,
-                next,
-            };
+    while reached.next < input.len() {
+        if !is_over(reached.cursor) {
             return Filled {
                 place: reached,
                 end,
             };
         }
-        let found = next_job(input, next, plan.device_count);
-        next = found.next;
-        job = found.job;
-        facts = facts_of(manager, table, job);
-        let printed = print_line(plan, job, facts, Cursor::Head, out, end);
-        cursor = printed.cursor;
+        let found = next_job(input, reached.next, manager.plan.device_count);
+        let facts = facts_of(manager, table, found.job);
+        let printed = print_line(manager.plan, found.job, facts, Cursor::Head, out, end);
+        reached = Place {
+            job: found.job,
+            facts,
+            cursor: printed.cursor,
+            next: found.next,
+            ..reached
+        };
         end = printed.end;
     }
-    let reached = Place {
-        rows: place.rows,
-        job,
-        facts,
-        cursor,
-        next,
-    };
     Filled {
         place: reached,
         end,
@@ -193,32 +145,26 @@ pub fn fill(manager: Manager, table: Table, input: &[u8], place: Place, out: &mu
     requires place_fits { PlaceFits manager place }
     ensures { FilledTo manager input.now place out.old out.new 0 result }
 {
-    let plan = manager.plan;
-    let job = place.job;
-    let facts = place.facts;
-    let cursor = place.cursor;
-    let printed = print_plan(plan, place.rows, out, 0);
-    if printed.next < 300 {
-        let reached = Place {
-            rows: printed.next,
-            job,
-            facts,
-            cursor,
-            next: place.next,
-        };
+    let printed = print_plan(manager.plan, place.rows, out, 0);
+    let rows = printed.next;
+    if rows < 300 {
         return Filled {
-            place: reached,
+            place: Place { rows, ..place },
             end: printed.end,
         };
     }
-    let begun = print_line(plan, job, facts, cursor, out, printed.end);
-    let left = begun.cursor;
+    let begun = print_line(
+        manager.plan,
+        place.job,
+        place.facts,
+        place.cursor,
+        out,
+        printed.end,
+    );
     let reached = Place {
-        rows: printed.next,
-        job,
-        facts,
-        cursor: left,
-        next: place.next,
+        rows,
+        cursor: begun.cursor,
+        ..place
     };
     fill_lines(manager, table, input, reached, out, begun.end)
 }
@@ -227,12 +173,5 @@ pub fn fill(manager: Manager, table: Table, input: &[u8], place: Place, out: &mu
 pub fn is_finished(place: Place, length: usize) -> bool
     ensures { result ≡ is_finished place length }
 {
-    if place.rows < 300 {
-        return false;
-    }
-    let cursor = place.cursor;
-    if is_begun(cursor) {
-        return false;
-    }
-    length <= place.next
+    300 <= place.rows && is_over(place.cursor) && length <= place.next
 }

@@ -14,7 +14,7 @@ ghost use Rattle.audits.specs.laws.TableLaws.{Tabled};
 
 pub mod fill;
 
-use figures::{Bounds, job_bounds};
+use figures::job_bounds;
 use job_rows::{JobFacts, figure_sum};
 use lines::{Line, line_of, part_end};
 use manager::Manager;
@@ -26,36 +26,36 @@ use rows::{Form, JobForm, Row};
 use segment::{is_lock, segment_at};
 use session::play::{PlainCall, plain_of};
 
-// A line of the list: a job of an area, or none.
+// A job of an area.
 #[derive(Clone, Copy)]
-pub enum JobLine {
-    NoJob,
-    Job { area: u32, task: Task },
+pub struct ListedJob {
+    pub area: u32,
+    pub task: Task,
 }
 
-fn job_of_call(call: PlainCall) -> JobLine
+fn job_of_call(call: PlainCall) -> Option<ListedJob>
     ensures { result ≡ job_of_call call }
 {
     match call {
-        PlainCall::Job { area, task } => JobLine::Job { area, task },
-        PlainCall::Release(_) => JobLine::NoJob,
-        PlainCall::Cancel(_) => JobLine::NoJob,
+        PlainCall::Job { area, task } => Some(ListedJob { area, task }),
+        PlainCall::Release(_) | PlainCall::Cancel(_) => None,
     }
 }
 
-fn job_of_line(line: Option<Line>) -> JobLine
+// The job of a line, if it is one.
+fn job_of_line(line: Option<Line>) -> Option<ListedJob>
     ensures { result ≡ job_of_line line }
 {
     match line {
         Some(Line::Call(call)) => job_of_call(plain_of(call)),
-        _ => JobLine::NoJob,
+        _ => None,
     }
 }
 
 // The job of a line, and where the next line begins.
 #[derive(Clone, Copy)]
 pub struct JobAt {
-    pub job: JobLine,
+    pub job: Option<ListedJob>,
     pub next: usize,
 }
 
@@ -64,22 +64,26 @@ pub fn next_job(input: &[u8], at: usize, devices: usize) -> JobAt
     ensures { NextJob input.now at devices result }
 {
     let to = part_end(input, b'\n', at);
-    let line = line_of(&input[at..to], devices);
-    let job = job_of_line(line);
-    JobAt { job, next: to + 1 }
+    JobAt {
+        job: job_of_line(line_of(&input[at..to], devices)),
+        next: to + 1,
+    }
 }
 
 // The number that the manager answers to a job.
 fn number_of(manager: Manager, area: usize, task: Task) -> u8
     ensures { result ≡ job_number_of manager area task }
 {
-    let plan = manager.plan;
-    let areas = manager.areas;
-    let devices = manager.devices;
-    let ages = manager.ages;
-    let change = job_change(plan, areas, devices, ages, area, task);
-    let answer = change.answer;
-    answer.number()
+    job_change(
+        manager.plan,
+        manager.areas,
+        manager.devices,
+        manager.ages,
+        area,
+        task,
+    )
+    .answer
+    .number()
 }
 
 // May a job of area b rank above one of area a?
@@ -87,12 +91,7 @@ fn may_rank_above(plan: Plan, b: usize, a: usize) -> bool
     requires { (a < 8) × (b < 8) }
     ensures { result ≡ may_rank_above plan b a }
 {
-    if b == a {
-        return false;
-    }
-    let mine = plan.areas[a];
-    let other = plan.areas[b];
-    mine.priority <= other.priority
+    b != a && plan.areas[a].priority <= plan.areas[b].priority
 }
 
 // What a job can add to above of one of area a: its own bound.
@@ -103,11 +102,10 @@ fn job_above(manager: Manager, a: usize, area: usize, task: Task) -> u64
     if 0 < number_of(manager, area, task) {
         return 0;
     }
-    if may_rank_above(manager.plan, area, a) {
-        let bounds = job_bounds(manager.plan, area, task);
-        return bounds.own;
+    if !may_rank_above(manager.plan, area, a) {
+        return 0;
     }
-    0
+    job_bounds(manager.plan, area, task).own
 }
 
 // Does a lock request that can be given name a device that area a is on?
@@ -127,11 +125,7 @@ fn job_locks(manager: Manager, a: usize, area: usize, task: Task) -> bool
     requires { Loaded manager }
     ensures { result ≡ job_locks manager.plan a (record { area = area; task = task }) }
 {
-    let kind = task.kind;
-    if is_lock(kind) {
-        return names_device(manager, a, area, task);
-    }
-    false
+    is_lock(task.kind) && names_device(manager, a, area, task)
 }
 
 // What the jobs of the list can add to above of a job of area a.
@@ -139,19 +133,15 @@ pub fn jobs_above(manager: Manager, input: &[u8], a: usize) -> u64
     requires { Loaded manager × (a < 8) }
     ensures { result ≡ min (jobs_above manager.plan a (jobs_in manager.plan.device_count (lines_of true input.now))) too_large }
 {
-    let mut sum: u64 = 0;
+    let mut sum = 0;
     let mut at = 0;
     while at < input.len() {
         let found = next_job(input, at, manager.plan.device_count);
         at = found.next;
-        let job = found.job;
-        match job {
-            JobLine::NoJob => {
-                continue;
-            }
-            JobLine::Job { area, task } => {
-                sum = figure_sum(sum, job_above(manager, a, area as usize, task));
-                continue;
+        match found.job {
+            None => continue,
+            Some(job) => {
+                sum = figure_sum(sum, job_above(manager, a, job.area as usize, job.task));
             }
         }
     }
@@ -167,52 +157,49 @@ pub fn any_locks(manager: Manager, input: &[u8], a: usize) -> bool
     while at < input.len() {
         let found = next_job(input, at, manager.plan.device_count);
         at = found.next;
-        let job = found.job;
-        match job {
-            JobLine::NoJob => {
-                continue;
-            }
-            JobLine::Job { area, task } => {
-                if job_locks(manager, a, area as usize, task) {
+        match found.job {
+            None => continue,
+            Some(job) => {
+                if job_locks(manager, a, job.area as usize, job.task) {
                     return true;
                 }
-                continue;
             }
         }
     }
     false
 }
 
-// What the list adds to the wait of each area's jobs.
-#[derive(Clone, Copy)]
-pub struct Table {
-    pub above: [u64; 8],
-    pub locks: [bool; 8],
+// What the list adds to the wait of the jobs of an area.
+#[derive(Clone, Copy, Default)]
+pub struct Added {
+    pub above: u64,
+    pub locks: bool,
 }
+
+// The same for each area.
+pub type Table = [Added; 8];
 
 pub fn table_of(manager: Manager, input: &[u8]) -> Table
     requires { Loaded manager }
     ensures { Tabled manager (jobs_in manager.plan.device_count (lines_of true input.now)) result }
 {
-    let mut above = [0u64; 8];
-    let mut locks = [false; 8];
-    let mut a: usize = 0;
-    while a < 8 {
-        above[a] = jobs_above(manager, input, a);
-        locks[a] = any_locks(manager, input, a);
-        a += 1;
+    let mut table = [Added::default(); 8];
+    for a in 0..8 {
+        table[a] = Added {
+            above: jobs_above(manager, input, a),
+            locks: any_locks(manager, input, a),
+        };
     }
-    Table { above, locks }
+    table
 }
 
 // The row of a line that is no job.
 pub fn unreadable_row() -> Row
     ensures { result ≡ unreadable_row }
 {
-    let numbers = [0, 0, 0, 0, 0, 0, 0, 0];
     Row {
         form: Form::OfJob(JobForm::Unreadable),
-        numbers,
+        numbers: [0; 8],
     }
 }
 
@@ -225,23 +212,14 @@ pub fn job_facts(manager: Manager, table: Table, area: usize, task: Task) -> Job
     if 0 < number {
         return JobFacts {
             number,
-            bounds: Bounds {
-                own: 0,
-                below: 0,
-                segments: 0,
-                spans: 0,
-            },
-            above: 0,
-            locks: false,
+            ..JobFacts::default()
         };
     }
-    let bounds = job_bounds(manager.plan, area, task);
-    let aboves = table.above;
-    let locked = table.locks;
+    let added = table[area];
     JobFacts {
-        number: 0,
-        bounds,
-        above: aboves[area],
-        locks: locked[area],
+        number,
+        bounds: job_bounds(manager.plan, area, task),
+        above: added.above,
+        locks: added.locks,
     }
 }

@@ -13,6 +13,6 @@ returns c =
     record {
       line = word a.input.now a.at to;
       lines = lines_next a.input.now a.at to c.requires e.0 e.1 e.2;
-      job = c.job_of_line-job.ensures ∙ ap job_of_line c.line_of-line.ensures;
+      job = c.job_of_line.ensures ∙ ap job_of_line c.line_of.ensures;
       further = omega (arith, e.0);
     }

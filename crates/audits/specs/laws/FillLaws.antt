@@ -1,5 +1,5 @@
 -- The audit printed, as far as its rows have room.
-use Rattle.std.specs.Prelude.{ℕ, ◌+◌, ◌-◌, ◌≤◌, ◌<◌, Bool, true, false, not, List, [], ◌∷◌, ◌++◌, ◌⊎◌, ◌≡◌, refl, length, take}
+use Rattle.std.specs.Prelude.{Some, None, ℕ, ◌+◌, ◌-◌, ◌≤◌, ◌<◌, true, false, List, [], ◌∷◌, ◌++◌, ◌⊎◌, ◌≡◌, refl, length, take}
 use Rattle.std.proofs.Common.{true≢false, append_assoc, ⊎_elim, sym, ap, ◌∙◌, arith, leb-true, length-append}
 use Rattle.std.proofs.lemmas.Bool.{false≢true}
 use Rattle.std.proofs.Math.Path.{subst}
@@ -22,11 +22,9 @@ use Rattle.rows.specs.laws.WrittenLaws.{written_none, written_more, written_on}
 use Rattle.rules.specs.statements.JobSets.{AreaJob}
 use Rattle.session.specs.AllLines.{lines_of}
 use Rattle.texts.specs.Appended.{Appended}
-use Rattle.audits.specs.Audits.{jobs_in, refused_facts, facts_of, unreadable_row, lines_from, rows_of_job, rows_of_lines, audit_rows, line_left, audit_left}
+use Rattle.audits.specs.Audits.{JobLine, jobs_in, refused_facts, facts_of, unreadable_row, lines_from, rows_of_job, rows_of_lines, audit_rows, line_left, audit_left}
 use Rattle.audits.specs.Filled.{first_place, is_finished, LineFits, PlaceFits, FilledTo}
 use Rattle.audits.specs.declared.JobAt.{JobAt}
-use Rattle.audits.specs.declared.JobLine.{JobLine}
-use Rattle.audits.specs.declared.JobLine.TheVariants.{NoJob, Job}
 use Rattle.audits.specs.declared.fill.Filled.{Filled}
 use Rattle.audits.specs.declared.fill.Place.{Place}
 use Rattle.audits.specs.laws.LineLaws.{NextJob, lines_all, lines_none}
@@ -34,8 +32,8 @@ use Rattle.audits.specs.laws.LoadLaws.{Loaded, audited}
 
 -- what is known of a line: of one that is no job nothing
 abbrev pub line_facts : Manager → List AreaJob → JobLine → JobFacts
-line_facts m js NoJob = refused_facts 0
-line_facts m js (Job a t) = facts_of m js a t
+line_facts m js None = refused_facts 0
+line_facts m js (Some j) = facts_of m js j.area j.task
 
 -- the rows of a line printed from a cursor on: it stops early only where the next row may not fit
 pub record LineDone (p : Plan) (j : JobLine) (f : JobFacts) (c : Cursor) (before after : List ℕ) (at : ℕ) (r : Printed) : Type 0 where
@@ -78,13 +76,13 @@ lines_left m input s e = ap (λ k. plan_rows_from m.plan (300 - k) k ++ (line_le
 
 -- a line that is over has no row left
 line_over : (p : Plan) (j : JobLine) (f : JobFacts) (c : Cursor) → is_end c ≡ true → line_left p j f c ≡ []
-line_over p NoJob f c e = rw e
-line_over p (Job a t) f c e = none_left p a t f c e
+line_over p None f c e = rw e
+line_over p (Some j) f c e = none_left p j.area j.task f c e
 
 -- one that begins has all
 line_all : (m : Manager) (js : List AreaJob) (j : JobLine) → rows_of_job m js j ≡ line_left m.plan j (line_facts m js j) Head
-line_all m js NoJob = refl
-line_all m js (Job a t) = refl
+line_all m js None = refl
+line_all m js (Some j) = refl
 
 -- the next line
 pub next_left : (m : Manager) (input : List ℕ) (at : ℕ) (r : JobAt) → NextJob input at m.plan.device_count r → (j : JobLine) (f : JobFacts) (c : Cursor) → is_end c ≡ true →
@@ -107,81 +105,74 @@ facts_number m js a t e = by_eqb (job_number_of m a t) 0 (λ _ q. q) (λ g _. rw
 
 -- so the rows of a line can be begun
 pub line_begins : (m : Manager) → Loaded m → (js : List AreaJob) (j : JobLine) (f : JobFacts) → f ≡ line_facts m js j → LineFits m.plan j f Head
-line_begins m l js NoJob f q = refl
-line_begins m l js (Job a t) f q = λ _ e. audited m l a t (facts_number m js a t (sym (ap (λ x. x.number) q) ∙ e))
+line_begins m l js None f q = refl
+line_begins m l js (Some j) f q = λ _ e. audited m l j.area j.task (facts_number m js j.area j.task (sym (ap (λ x. x.number) q) ∙ e))
 
 -- a line that is no job, printed
 module _ (p : Plan) (f : JobFacts) (c : Cursor) where
-  pub unreadable_over : (l : List ℕ) (at : ℕ) → at ≤ length l → is_end c ≡ true → LineDone p NoJob f c l l at (record { cursor = c; end = at })
+  pub unreadable_over : (l : List ℕ) (at : ℕ) → at ≤ length l → is_end c ≡ true → LineDone p None f c l l at (record { cursor = c; end = at })
   unreadable_over l at h e = record { written = written_none _ _ _; fits = refl; few = h; full = λ g. absurd (true≢false (sym e ∙ g)) }
 
-  pub unreadable_full : (l : List ℕ) (at : ℕ) → at ≤ length l → length l - at < 3000 → LineDone p NoJob f c l l at (record { cursor = c; end = at })
+  pub unreadable_full : (l : List ℕ) (at : ℕ) → at ≤ length l → length l - at < 3000 → LineDone p None f c l l at (record { cursor = c; end = at })
   unreadable_full l at h k = record { written = written_none _ _ _; fits = refl; few = h; full = λ _. omega arith }
 
   pub unreadable_printed : (l k : List ℕ) (at end : ℕ) → is_end c ≡ false → Appended l k at end (row_text unreadable_row) → end ≤ length k →
-      LineDone p NoJob f c l k at (record { cursor = End; end = end })
+      LineDone p None f c l k at (record { cursor = End; end = end })
   unfolding rows_text
   unreadable_printed l k at end e q h =
       record {
-        written = written_more (row_text unreadable_row) (rw e refl) (written_none l at (rows_text (line_left p NoJob f c))) q;
+        written = written_more (row_text unreadable_row) (rw e refl) (written_none l at (rows_text (line_left p None f c))) q;
         fits = refl;
         few = h;
         full = λ g. absurd (true≢false g);
       }
 
--- what is not begun is over
-pub not_begun : (t : Bool) → not t ≡ false → t ≡ true
-not_begun true e = refl
-not_begun false e = absurd (true≢false e)
-
-pub begun : (t : Bool) → not t ≡ true → t ≡ false
-begun true e = absurd (false≢true e)
-begun false e = refl
-
--- the lines being printed, from place s on: line j is in work, and the next begins at byte `next`
-pub record Filling (m : Manager) (input : List ℕ) (s : Place) (before after : List ℕ) (at : ℕ) (j : JobLine) (f : JobFacts) (c : Cursor) (next end : ℕ) : Type 0 where
+-- the lines being printed, from place s on, as far as place r
+pub record Filling (m : Manager) (input : List ℕ) (s : Place) (before after : List ℕ) (at : ℕ) (r : Place) (end : ℕ) : Type 0 where
+  pub rows : r.rows ≡ s.rows
   pub long : length after ≡ length before
   pub few : end ≤ length before
-  pub line : LineFits m.plan j f c
-  pub full : is_end c ≡ false → length before < end + 3000
-  pub written : Written before after at end (rows_text (audit_left m input s)) (rows_text (line_left m.plan j f c ++ behind m input next))
+  pub line : LineFits m.plan r.job r.facts r.cursor
+  pub full : is_end r.cursor ≡ false → length before < end + 3000
+  pub written : Written before after at end (rows_text (audit_left m input s)) (rows_text (line_left m.plan r.job r.facts r.cursor ++ behind m input r.next))
 
 module _ (m : Manager) (input : List ℕ) (s : Place) (e : s.rows ≡ 300) (before : List ℕ) (at : ℕ) where
   -- where nothing is printed yet
   pub filling_first : LineFits m.plan s.job s.facts s.cursor → at ≤ length before → (is_end s.cursor ≡ false → length before < at + 3000) →
-      Filling m input s before before at s.job s.facts s.cursor s.next at
-  filling_first f h k = record { long = refl; few = h; line = f; full = k; written = rw (lines_left m input s e) (written_none _ _ _) }
+      Filling m input s before before at s at
+  filling_first f h k = record { rows = refl; long = refl; few = h; line = f; full = k; written = rw (lines_left m input s e) (written_none _ _ _) }
 
   -- the next one
-  pub filling_next : (mid after : List ℕ) (j : JobLine) (f : JobFacts) (c : Cursor) (next end : ℕ) → Filling m input s before mid at j f c next end → (n : JobAt) →
-      NextJob input next m.plan.device_count n → is_end c ≡ true → (g : JobFacts) →
-      g ≡ line_facts m (jobs_in m.plan.device_count (lines_of true input)) n.job → (r : Printed) →
-      LineDone m.plan n.job g Head mid after end r → Filling m input s before after at n.job g r.cursor n.next r.end
-  filling_next mid after j f c next end k n h over g q r d =
+  pub filling_next : (mid after : List ℕ) (r : Place) (end : ℕ) → Filling m input s before mid at r end → (n : JobAt) →
+      NextJob input r.next m.plan.device_count n → is_end r.cursor ≡ true → (g : JobFacts) →
+      g ≡ line_facts m (jobs_in m.plan.device_count (lines_of true input)) n.job → (q : Printed) →
+      LineDone m.plan n.job g Head mid after end q →
+      Filling m input s before after at (record { rows = r.rows; job = n.job; facts = g; cursor = q.cursor; next = n.next }) q.end
+  filling_next mid after r end k n h over g is q d =
       let long = d.written.long ∙ k.long in
-      let more = written_before (line_left m.plan n.job g Head) (line_left m.plan n.job g r.cursor) (behind m input n.next) d.written in
+      let more = written_before (line_left m.plan n.job g Head) (line_left m.plan n.job g q.cursor) (behind m input n.next) d.written in
       record {
+        rows = k.rows;
         long = long;
         few = omega (arith, d.few);
         line = d.fits;
         full = λ u. omega (arith, d.full u);
-        written = written_on (subst (λ l. Written before mid at end (rows_text (audit_left m input s)) (rows_text l)) (next_left m input next n h j f c over g q) k.written) more;
+        written = written_on (subst (λ l. Written before mid at end (rows_text (audit_left m input s)) (rows_text l)) (next_left m input r.next n h r.job r.facts r.cursor over g is) k.written) more;
       }
 
   -- the buffer is full, or the lines are at their end
-  pub filling_stops : (after : List ℕ) (j : JobLine) (f : JobFacts) (c : Cursor) (next end : ℕ) → Filling m input s before after at j f c next end →
-      (is_end c ≡ false) ⊎ (length input ≤ next) →
-      FilledTo m input s before after at (record { place = record { rows = s.rows; job = j; facts = f; cursor = c; next = next }; end = end })
-  filling_stops after j f c next end k stops =
-      let place : Place = record { rows = s.rows; job = j; facts = f; cursor = c; next = next } in
+  pub filling_stops : (after : List ℕ) (r : Place) (end : ℕ) → Filling m input s before after at r end →
+      (is_end r.cursor ≡ false) ⊎ (length input ≤ r.next) → FilledTo m input s before after at (record { place = r; end = end })
+  filling_stops after r end k stops =
+      let all : r.rows ≡ 300 = k.rows ∙ e in
       record {
-        written = rw (lines_left m input place e) k.written;
-        fits = record { rows = omega (arith, e); line = k.line };
+        written = rw (lines_left m input r all) k.written;
+        fits = record { rows = omega (arith, all); line = k.line };
         few = omega (arith, k.few, k.long);
         full = λ u.
             ⊎_elim
             (λ g. omega (arith, k.full g, k.long))
-            (λ g. by_bool (is_end c) (λ over. absurd (u (all_printed m input place e over g))) (λ left. omega (arith, k.full left, k.long)))
+            (λ g. by_bool (is_end r.cursor) (λ over. absurd (u (all_printed m input r all over g))) (λ left. omega (arith, k.full left, k.long)))
             stops;
       }
 

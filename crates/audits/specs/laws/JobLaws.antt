@@ -1,6 +1,6 @@
 -- What is known of one job.
 use Rattle.std.specs.Prelude.{ℕ, ◌≤◌, ◌<◌, Bool, true, false, List, ◌≡◌, get_or}
-use Rattle.std.proofs.Common.{sym, ap, ◌∙◌, arith}
+use Rattle.std.proofs.Common.{refl, sym, ap, ◌∙◌, arith}
 use borrow.Author.Tests.{eq-eqb, ne_eqb}
 use Rattle.arith.specs.Cases.{by_bool}
 use Rattle.figures.specs.Figures.{bounds_of}
@@ -11,9 +11,9 @@ use Rattle.memory.specs.declared.Task.{Task}
 use Rattle.rules.specs.statements.JobSets.{AreaJob, is_admissible, may_rank_above, job_above, is_on, job_locks}
 use Rattle.segment.specs.Segments.{is_lock, segment_at}
 use Rattle.audits.specs.Audits.{refused_facts, facts_of}
-use Rattle.audits.specs.declared.Table.{Table}
+use Rattle.audits.specs.declared.Added.{Added}
 use Rattle.audits.specs.laws.LoadLaws.{Loaded}
-use Rattle.audits.specs.laws.TableLaws.{Tabled}
+use Rattle.audits.specs.laws.TableLaws.{nothing_added, Tabled}
 
 module _ (m : Manager) (f : Loaded m) (b : ℕ) (t : Task) (n : ℕ) (is : n ≡ job_number_of m b t) where
   abbrev job : AreaJob
@@ -53,7 +53,7 @@ module _ (m : Manager) (f : Loaded m) (b : ℕ) (t : Task) (n : ℕ) (is : n ≡
   unfolding facts_of
   facts_refused js h = rw (← is, ne_eqb n 0 (λ e. omega arith))
 
-  pub facts_accepted : (js : List AreaJob) (table : Table) → Tabled m js table → b < 8 → n ≤ 0 → (x : Bounds) → x ≡ bounds_of m.plan b t →
-      record { number = 0; bounds = x; above = get_or table.above b 0; locks = get_or table.locks b false } ≡ facts_of m js b t
+  pub facts_accepted : (js : List AreaJob) (table : List Added) → Tabled m js table → b < 8 → n ≤ 0 → (x : Bounds) → x ≡ bounds_of m.plan b t →
+      record { number = n; bounds = x; above = (get_or table b nothing_added).above; locks = (get_or table b nothing_added).locks } ≡ facts_of m js b t
   unfolding facts_of
-  facts_accepted js table s k h x q = rw (← is, eq-eqb n 0 (omega arith), (s b k).0, (s b k).1, q)
+  facts_accepted js table s k h x q = let none : n ≡ 0 = omega arith in rw (← is, eq-eqb n 0 none, (s b k).0, (s b k).1, q, none) refl
