@@ -95,12 +95,13 @@ fn audit_plan<R: Read, W: Write>(reader: &mut R, writer: &mut W, plan: &[u8]) ->
     ensures written { 0 < result → IfSome (R.remaining reader.old) (λ jobs. Appends (W.contents writer.old) (W.contents writer.new) (rows_text (audit_rows (loaded_manager plan.now) (lines_of true jobs)))) }
 {
     let mut out = [0u8; 65536];
-    let opened = session::open(plan, &mut out);
-    if 0 < opened.written {
-        let _ = write_all(writer, &out[..opened.written]);
-        return 0;
+    match session::open(plan, &mut out) {
+        Ok(opened) => audit_jobs(reader, writer, opened.manager, &mut out),
+        Err(closed) => {
+            let _ = write_all(writer, &out[..closed.written]);
+            0
+        }
     }
-    audit_jobs(reader, writer, opened.manager, &mut out)
 }
 
 // Runs the audit, and answers how many bytes of the jobs were audited. What plan.bin holds is decided outside, and what the jobs are and what

@@ -184,24 +184,27 @@ fn play_session<R: Read, W: Write>(reader: &mut R, writer: &mut W, plan: &[u8]) 
     ensures session { (came : List ℕ) × Consumes (R.remaining reader.old) (R.remaining reader.new) came × Wrote (W.contents writer.old) (W.contents writer.new) (bench_text plan.now came) ⊥ }
 {
     let mut out = [0u8; 65536];
-    let opened = session::open(plan, &mut out);
-    if 0 < opened.written {
-        let _ = write_all(writer, &out[..opened.written]);
-        return 0;
+    match session::open(plan, &mut out) {
+        Ok(opened) => {
+            let mut image = first_image();
+            let mut store = first_store();
+            // a begun line, and what one read brings behind it
+            let mut input = [0u8; 69633];
+            serve(
+                reader,
+                writer,
+                opened.manager,
+                &mut input,
+                &mut image[..opened.image_length],
+                &mut store,
+                &mut out,
+            )
+        }
+        Err(closed) => {
+            let _ = write_all(writer, &out[..closed.written]);
+            0
+        }
     }
-    let mut image = first_image();
-    let mut store = first_store();
-    // a begun line, and what one read brings behind it
-    let mut input = [0u8; 69633];
-    serve(
-        reader,
-        writer,
-        opened.manager,
-        &mut input,
-        &mut image[..opened.image_length],
-        &mut store,
-        &mut out,
-    )
 }
 
 // Runs the session, and answers how many bytes of a begun line were not taken. What plan.bin holds, what the input is and what can be written is decided outside: it is the

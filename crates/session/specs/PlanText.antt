@@ -1,11 +1,12 @@
 -- document 01, "A printed session": "A refused plan prints only its number; a plan above that sum, over 4,096 bytes or
 -- unreadable prints only '?'." An accepted plan prints nothing.
-use Rattle.std.specs.Prelude.{ℕ, List, [], ltb, length}
+use Rattle.std.specs.Prelude.{ℕ, List, [], Result, Ok, Err, ltb, length}
 use Rattle.arith.specs.Cases.{pick}
 use Rattle.manager.specs.declared.Manager.{Manager}
 use Rattle.plan.specs.Records.{plan_of}
 use Rattle.plan.specs.Questions.{length_sum, load_number}
 use Rattle.texts.specs.Texts.{number_line, question_line}
+use Rattle.session.specs.declared.Closed.{Closed}
 use Rattle.session.specs.declared.Opened.{Opened}
 
 -- "device sum at most 65,536"
@@ -26,5 +27,15 @@ open_text room l = pick (ltb room 338) [] (plan_text l)
 unfoldable pub image_length_of : ℕ → List ℕ → ℕ
 image_length_of room l = pick (ltb room 338) 0 (pick (ltb (length (plan_text l)) 1) (device_sum_of l) 0)
 
-abbrev pub closed_of : Manager → ℕ → Opened
-closed_of m written = record { manager = m; image_length = 0; written = written }
+-- the parts of what the opening answers, whether the session goes on or not
+abbrev pub manager_in : Result Opened Closed → Manager
+manager_in (Ok o) = o.manager
+manager_in (Err c) = c.manager
+
+abbrev pub written_in : Result Opened Closed → ℕ
+written_in (Ok o) = 0
+written_in (Err c) = c.written
+
+abbrev pub image_length_in : Result Opened Closed → ℕ
+image_length_in (Ok o) = o.image_length
+image_length_in (Err c) = 0

@@ -193,7 +193,7 @@ fn play_round(
 }
 
 // What a line does, and its answer: that of a line that cannot be read is a question mark.
-pub fn play_line(
+pub(crate) fn play_line(
     manager: &mut Manager,
     line: Option<Line>,
     image: &mut [u8],

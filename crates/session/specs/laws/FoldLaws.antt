@@ -141,12 +141,12 @@ module _ (ends : Bool) (room : ℕ) (m : Manager) (image store out : List ℕ) (
 
 -- the whole session by what was printed of the plan
 pub all_refused : (plan input image store : List ℕ) {before out : List ℕ} {k : ℕ} (m : Manager) → m ≡ loaded_manager plan →
-    Appended before out 0 k (open_text (length before) plan) → 0 < k →
+    Appended before out 0 k (open_text (length before) plan) → (338 ≤ length before → 0 < k) →
     session_of m image store out k 0 ≡ played_all plan input (length before) (memory_of image store)
 unfolding played_all open_text
 all_refused plan input image store {before} m f q h =
-    by_ltb (length before) 338 (λ e _. absurd (omega (arith, rw e at q.ends))) (λ e _. let p = rw e at q in
-    rw (f, e, p.bytes, le-ltb (length (plan_text plan)) 1 (omega (arith, p.ends))))
+    by_ltb (length before) 338 (λ e _. rw (f, e, (rw e at q).bytes)) (λ e long. let p = rw e at q in
+    rw (f, e, p.bytes, le-ltb (length (plan_text plan)) 1 (omega (arith, p.ends, h long))))
 
 pub all_lines : (plan input image store : List ℕ) {before out : List ℕ} {k : ℕ} (m : Manager) (x : Session) → m ≡ loaded_manager plan →
     Appended before out 0 k (open_text (length before) plan) → k ≤ 0 →

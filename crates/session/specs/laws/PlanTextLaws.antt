@@ -1,5 +1,5 @@
 -- The plan's text by the cases that the code takes apart.
-use Rattle.std.specs.Prelude.{ℕ, ◌≤◌, ◌<◌, List, [], ◌≡◌, refl, length}
+use Rattle.std.specs.Prelude.{ℕ, ◌≤◌, ◌<◌, List, [], Result, Ok, Err, ◌≡◌, refl, length}
 use borrow.Author.Tests.{eq-eqb, lt-ltb, le-ltb}
 use Rattle.std.proofs.Common.{length-append, arith}
 use Rattle.manager.specs.Load.{fresh_manager, loaded_manager}
@@ -10,8 +10,9 @@ use Rattle.plan.specs.Questions.{length_sum, load_number}
 use Rattle.texts.specs.Appended.{Appended}
 use Rattle.texts.specs.laws.AppendLaws.{append_none}
 use Rattle.texts.specs.Texts.{number_line, question_line}
+use Rattle.session.specs.declared.Closed.{Closed}
 use Rattle.session.specs.declared.Opened.{Opened}
-use Rattle.session.specs.PlanText.{device_sum_of, plan_text, open_text, image_length_of, closed_of}
+use Rattle.session.specs.PlanText.{device_sum_of, plan_text, open_text, image_length_of, manager_in, written_in, image_length_in}
 
 -- an accepted load keeps the plan that the bytes hold
 module _ (l : List ℕ) (m : Manager) (e : m ≡ loaded_manager l) (zero : load_number l ≡ 0) where
@@ -48,24 +49,24 @@ module _ (l : List ℕ) where
   text_accepted h e k = rw (le-ltb _ _ h, e, le-ltb _ _ k)
 
 -- what `open` did
-abbrev pub OpenDone : List ℕ → Opened → List ℕ → List ℕ → Type 0
+abbrev pub OpenDone : List ℕ → Result Opened Closed → List ℕ → List ℕ → Type 0
 OpenDone l r before after =
-    (r.manager ≡ loaded_manager l)
-    × (((Appended before after 0 r.written (open_text (length before) l)) × (r.written ≤ length after))
-    × ((r.image_length ≡ image_length_of (length before) l) × (r.image_length ≤ 65536)))
+    (manager_in r ≡ loaded_manager l)
+    × (((Appended before after 0 (written_in r) (open_text (length before) l)) × (written_in r ≤ length after))
+    × ((image_length_in r ≡ image_length_of (length before) l) × (image_length_in r ≤ 65536)))
 
-module _ (l : List ℕ) (m : Manager) (r : Opened) {a : List ℕ} (e : m ≡ loaded_manager l) where
-  pub open_full : length a < 338 → r ≡ closed_of m 0 → OpenDone l r a a
+module _ (l : List ℕ) (m : Manager) {a : List ℕ} (e : m ≡ loaded_manager l) where
+  pub open_full : length a < 338 → OpenDone l (Err (record { manager = m; written = 0 })) a a
   unfolding open_text image_length_of
-  open_full h f = rw (f, lt-ltb (length a) 338 h) (e, ((append_none a 0, omega arith), (refl, omega arith)))
+  open_full h = rw (lt-ltb (length a) 338 h) (e, ((append_none a 0, omega arith), (refl, omega arith)))
 
-  pub open_closed : {b text : List ℕ} (j : ℕ) → 338 ≤ length a → r ≡ closed_of m j → text ≡ plan_text l → 1 ≤ length text → Appended a b 0 j text → j ≤ 338 →
-      OpenDone l r a b
+  pub open_closed : {b text : List ℕ} (j : ℕ) → 338 ≤ length a → text ≡ plan_text l → 1 ≤ length text → Appended a b 0 j text → j ≤ 338 →
+      OpenDone l (Err (record { manager = m; written = j })) a b
   unfolding open_text image_length_of
-  open_closed j h f t k p few =
-      rw (f, le-ltb (length a) 338 h, ← t, le-ltb _ _ k) (e, ((p, omega (arith, p.long)), (refl, omega arith)))
+  open_closed j h t k p few =
+      rw (le-ltb (length a) 338 h, ← t, le-ltb _ _ k) (e, ((p, omega (arith, p.long)), (refl, omega arith)))
 
-  pub open_open : (n : ℕ) → 338 ≤ length a → r ≡ record { manager = m; image_length = n; written = 0 } → [] ≡ plan_text l → n ≡ device_sum_of l → n ≤ 65536 →
-      OpenDone l r a a
+  pub open_open : (n : ℕ) → 338 ≤ length a → [] ≡ plan_text l → n ≡ device_sum_of l → n ≤ 65536 →
+      OpenDone l (Ok (record { manager = m; image_length = n })) a a
   unfolding open_text image_length_of
-  open_open n h f t g few = rw (f, le-ltb (length a) 338 h, ← t) (e, ((append_none a 0, omega arith), (g, few)))
+  open_open n h t g few = rw (le-ltb (length a) 338 h, ← t) (e, ((append_none a 0, omega arith), (g, few)))
