@@ -48,7 +48,7 @@ pub fn next_segment(
             if job.task.length <= upto {
                 no_segment()
             } else {
-                segment_from(sub_areas, count, start, area, job.task, upto)
+                segment_from(&sub_areas[..count], start, area, job.task, upto)
             }
         }
     }

@@ -212,35 +212,30 @@ pub fn segment_found(
     }
 }
 
-// The segment of a job of an area that starts there, which is due once `processed` bytes are done.
-#[tactic(auto, using(crate::specs::laws::Found::index_within, crate::specs::laws::Found::offset_inside, crate::specs::laws::Found::if_found, crate::specs::laws::LookupLaws::located_front))]
+// The segment of a job of an area that starts there, by the records in use, which are lent: the one that is due once `processed` bytes are done.
 pub fn segment_from(
-    sub_areas: [SubAreaRecord; 32],
-    count: usize,
+    sub_areas: &[SubAreaRecord],
     start: LogicalAddress,
     area: usize,
     task: Task,
     processed: u32,
 ) -> Segment
-    requires { count ≤ 32 }
-    ensures { result ≡ segment_from sub_areas count start.0 area task processed }
+    requires { length sub_areas.now ≤ 32 }
+    ensures { result ≡ segment_from sub_areas.now (length sub_areas.now) start.0 area task processed }
 {
-    let found = locate(&sub_areas[..count], start, area, task.address, processed);
-    segment_found(task, processed, sub_areas[index_of(found)], found)
+    let found = locate(sub_areas, start, area, task.address, processed);
+    match found {
+        None => no_segment(),
+        Some(byte) => segment_found(task, processed, sub_areas[byte.sub_area], found),
+    }
 }
 
 // The same for callers that hold the plan.
-#[tactic(auto, using(crate::specs::laws::Found::segment_from_lem))]
+#[tactic(auto, using(crate::specs::laws::Found::segment_from_front, crate::specs::laws::Found::segment_from_lem))]
 pub fn segment_at(plan: Plan, area: usize, task: Task, processed: u32) -> Segment
     requires { (plan.sub_area_count ≤ 32) × (area < 8) }
     ensures { result ≡ segment_at plan area task processed }
 {
-    segment_from(
-        plan.sub_areas,
-        plan.sub_area_count,
-        plan.areas[area].start,
-        area,
-        task,
-        processed,
-    )
+    let sub_areas = &plan.sub_areas[..plan.sub_area_count];
+    segment_from(sub_areas, plan.areas[area].start, area, task, processed)
 }

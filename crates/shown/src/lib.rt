@@ -43,8 +43,7 @@ fn area_request(out: &mut [u8], at: usize, plan: Plan, areas: [Area; 8], area: u
 {
     let job = job_of(areas, area as usize);
     let segment = segment_from(
-        plan.sub_areas,
-        plan.sub_area_count,
+        &plan.sub_areas[..plan.sub_area_count],
         start_of(plan.areas, area as usize),
         area as usize,
         job.task,

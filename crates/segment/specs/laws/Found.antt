@@ -1,8 +1,8 @@
 -- What the code makes of what the lookup found.
 use Prim.Native.Nat.{ℕ, zero, suc, ◌+◌, ◌-◌, ◌≤◌, ◌<◌, min}
-use Rattle.std.specs.Prelude.{List, Some, None, ◌⊎◌, ◌≡◌, refl, ltb}
+use Rattle.std.specs.Prelude.{List, Some, None, ◌⊎◌, ◌≡◌, refl, ltb, length, take}
 use Rattle.std.specs.declared.option.Option.{Option}
-use Rattle.std.proofs.Common.{inl, inr, ap}
+use Rattle.std.proofs.Common.{inl, inr, ap, ◌∙◌, get_or-take}
 use native.Mathlib.Omega.{arith}
 use Rattle.arith.specs.Cases.{by_bool, by_ltb}
 use Rattle.memory.specs.declared.JobType.{JobType}
@@ -11,6 +11,8 @@ use Rattle.memory.specs.declared.Task.{Task}
 use Rattle.plan.specs.Questions.{area_of, sub_area_of, is_of, size_of}
 use Rattle.plan.specs.declared.records.Plan.{Plan}
 use Rattle.plan.specs.declared.records.SubAreaRecord.{SubAreaRecord}
+use Rattle.plan.specs.Records.{no_sub_area}
+use Rattle.segment.specs.laws.LookupLaws.{located_front}
 use Rattle.segment.specs.Mapping.{find, located, mapped}
 use Rattle.segment.specs.Segments.{retries_of, segment_length, segment_in, no_segment, segment_of, segment_at}
 use Rattle.segment.specs.declared.FoundByte.{FoundByte}
@@ -83,6 +85,27 @@ module _ (l : List SubAreaRecord) (a n : ℕ) where
 pub if_found : (k : JobType) (l : List SubAreaRecord) (r : ℕ) (f : Option FoundByte) → segment_if k (sub_area_of l (index_of f)) r f ≡ segment_of k l r f
 if_found k l r None = refl
 if_found k l r (Some byte) = refl
+
+-- what is found among the first n records, lent, makes the segment that it makes of all of them
+front_segment : (k : JobType) (n : ℕ) (l : List SubAreaRecord) (r : ℕ) (f : Option FoundByte) → Known l n f → segment_of k (take n l) r f ≡ segment_of k l r f
+unfolding Known
+front_segment k n l r None h = refl
+front_segment k n l r (Some byte) h = ap (λ s. segment_in k byte.sub_area s byte.offset r) (get_or-take n l byte.sub_area no_sub_area h.0)
+
+pub segment_from_front : (n : ℕ) (l : List SubAreaRecord) → n ≤ length l → (start a : ℕ) (t : Task) (x : ℕ) →
+    segment_from (take n l) (length (take n l)) start a t x ≡ segment_from l n start a t x
+segment_from_front n l h start a t x =
+    ap (segment_of t.kind (take n l) (t.length - x)) (located_front n l h start a (t.address.0 + x))
+    ∙ front_segment t.kind n l (t.length - x) _ (located_known l a n start (t.address.0 + x))
+
+-- where a byte is found, its record is among those looked at, and it lies inside it
+module _ (l : List SubAreaRecord) (start a x : ℕ) (byte : FoundByte) (here : Some byte ≡ located l (length l) start a x) where
+  pub found_index : byte.sub_area < length l
+  unfolding Known
+  found_index = (within l a (length l) start x (Some byte) here).0
+
+  pub found_inside : length l ≤ 32 → Inside (sub_area_of l byte.sub_area) (Some byte)
+  found_inside few = offset_inside l a (length l) start x (Some byte) here few
 
 -- of a plan
 pub located_mapped : (p : Plan) (a x : ℕ) → located p.sub_areas p.sub_area_count (area_of p.areas a).start.0 a x ≡ mapped p a (record { 0 = x })
