@@ -1,4 +1,3 @@
 pub mod Repeated
 pub mod Rounds
-pub mod Grown
 pub mod Cutting

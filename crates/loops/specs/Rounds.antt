@@ -1,6 +1,5 @@
 -- Rounds with the same answers, one after the other, and what they leave.
-use Rattle.std.specs.Prelude.{ℕ, zero, suc, ◌+◌, ◌-◌, List, ◌≡◌, eqb, replicate}
-use Rattle.std.proofs.Math.Numerals.{add-one}
+use Rattle.std.specs.Prelude.{ℕ, ◌+◌, ◌-◌, List, ◌≡◌, eqb, replicate}
 use Rattle.arith.specs.Cases.{pick}
 use Rattle.manager.specs.Calls.{processed_of, round_number_of, after_round, memory_after_round}
 use Rattle.manager.specs.declared.Manager.{Manager}
@@ -9,7 +8,7 @@ use Rattle.memory.specs.declared.DeviceAnswer.TheVariants.{Pending, Done, Failed
 use Rattle.effects.specs.Effects.{memory_of}
 use Rattle.rules.specs.Memory.{Memory}
 use Rattle.rules.specs.Wear.{worn_at}
-use Rattle.loops.specs.Repeated.{total}
+use Rattle.loops.specs.Repeated.{repeated, total}
 
 -- the answer of a number that C hands over: 0 pending, 1 done, any other failed after 2 bytes fewer
 unfoldable pub answer_numbered : ℕ → DeviceAnswer
@@ -26,26 +25,15 @@ pub record Bench : Type 0 where
 abbrev pub bench_of : Manager → Memory → Bench
 bench_of m lent = record { manager = m; lent = lent }
 
-module _ (answers : List DeviceAnswer) (b : Bench) where
-  unfoldable pub rounds : ℕ → Bench
-  rounds zero = b
-  rounds (suc n) =
-      let last = rounds n in
-      bench_of (after_round last.manager answers last.lent) (memory_after_round last.manager answers last.lent)
+-- what a round leaves of them
+abbrev pub next_round : List DeviceAnswer → ℕ → Bench → Bench
+next_round answers i b = bench_of (after_round b.manager answers b.lent) (memory_after_round b.manager answers b.lent)
 
-  unfoldable pub round_total : ℕ → ℕ
-  round_total zero = 0
-  round_total (suc n) = round_total n + round_number_of (rounds n).manager (rounds n).lent
+abbrev pub rounds : List DeviceAnswer → Bench → ℕ → Bench
+rounds answers = repeated (next_round answers)
 
-  -- the step of a loop over rounds
-  pub rounds_more : (n : ℕ) → rounds (n + 1) ≡
-      bench_of (after_round (rounds n).manager answers (rounds n).lent) (memory_after_round (rounds n).manager answers (rounds n).lent)
-  unfolding rounds
-  rounds_more n = rw add-one
-
-  pub total_more_rounds : (n : ℕ) → round_total (n + 1) ≡ round_total n + round_number_of (rounds n).manager (rounds n).lent
-  unfolding round_total
-  total_more_rounds n = rw add-one
+abbrev pub round_total : List DeviceAnswer → Bench → ℕ → ℕ
+round_total answers = total (next_round answers) (λ i b. round_number_of b.manager b.lent)
 
 -- manager and memory by their parts
 pub bench_is : (m after : Manager) (image store : List ℕ) (x : Memory) → m ≡ after → image ≡ x.image → store ≡ x.store →

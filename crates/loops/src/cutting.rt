@@ -1,45 +1,34 @@
 // Cutting alone: the burst test over two lists, and the segments of a job one after the other.
 ghost use Rattle.std.specs.Prelude.{◌≡◌, ◌≤◌};
-ghost use Rattle.arith.specs.Cases.{pick};
 ghost use Rattle.manager.specs.Load.{loaded_manager};
 ghost use Rattle.loops.specs.Repeated.{task_of};
 ghost use Rattle.loops.specs.Cutting.{multiple_count, processed_next, cut_total, place_in, placed_total};
 ghost use Rattle.segment.specs.laws.Found.{Inside};
 
-use crate::in_place::task_of;
+use crate::task_of;
 use manager::Manager;
 use memory::MemAddress;
 use multiples::is_multiple;
 use plan::records::SubAreaRecord;
 use segment::{FoundByte, segment_at, segment_found};
 
-fn one_if(yes: bool) -> u64
-    ensures { (result ≡ pick yes 1 0) × (result ≤ 1) }
-{
-    if yes {
-        return 1;
-    }
-    0
-}
-
 // Sizes and addresses are lent, so that no test can be made before its turn.
 pub fn burst_tests(sizes: &[u64], addresses: &[u64]) -> u64
     ensures { result ≡ multiple_count sizes.now addresses.now }
 {
-    let n = sizes.len().min(addresses.len());
     let mut count: u64 = 0;
-    for i in 0..n {
-        count += one_if(is_multiple(sizes[i], addresses[i]));
+    for i in 0..sizes.len().min(addresses.len()) {
+        count += u64::from(is_multiple(sizes[i], addresses[i]));
     }
     count
 }
 
+#[tactic(auto, unfolding(crate::specs::Cutting::processed_next))]
 fn processed_next(length: u32, processed: u32, cut: u64) -> u32
     requires { processed ≤ length }
     ensures { (result ≡ processed_next length processed cut) × (result ≤ length) }
 {
-    let left = length - processed;
-    if cut < (left as u64) {
+    if cut < (length - processed) as u64 {
         return processed + (cut as u32);
     }
     0
@@ -49,17 +38,14 @@ fn processed_next(length: u32, processed: u32, cut: u64) -> u32
 pub fn cuts(plan: &[u8], kind: u8, length: u32, times: u32) -> u64
     ensures { result ≡ cut_total (loaded_manager plan.now).plan (task_of kind length) times }
 {
-    let loaded = Manager::load(plan);
-    let manager = loaded.manager;
+    let manager = Manager::load(plan).manager;
     let task = task_of(kind, length);
     let mut processed: u32 = 0;
     let mut sum: u64 = 0;
-    let mut i: u32 = 0;
-    while i < times {
+    for _turn in 0..times {
         let segment = segment_at(manager.plan, 0, task, processed);
         processed = processed_next(length, processed, segment.length);
         sum += processed as u64;
-        i += 1;
     }
     sum
 }
@@ -84,20 +70,16 @@ fn place_in(sub_area: SubAreaRecord, byte: u32) -> Option<FoundByte>
 pub fn placed_cuts(plan: &[u8], kind: u8, length: u32, times: u32) -> u64
     ensures { result ≡ placed_total (loaded_manager plan.now).plan.sub_areas (task_of kind length) times }
 {
-    let loaded = Manager::load(plan);
-    let manager = loaded.manager;
-    let plan = manager.plan;
+    let plan = Manager::load(plan).manager.plan;
     let task = task_of(kind, length);
     let mut processed: u32 = 0;
     let mut sum: u64 = 0;
-    let mut i: u32 = 0;
-    while i < times {
+    for i in 0..times {
         let sub_area = plan.sub_areas[(i % 32) as usize];
         let found = place_in(sub_area, processed);
         let segment = segment_found(task, processed, sub_area, found);
         processed = processed_next(length, processed, segment.length);
         sum += processed as u64;
-        i += 1;
     }
     sum
 }

@@ -8,33 +8,39 @@ ghost use Rattle.loops.specs.Rounds.{answers_of, rounds_total, bench_after};
 ghost use Rattle.manager.specs.Load.{loaded_manager};
 ghost use Rattle.effects.specs.Effects.{memory_of};
 
+use loops::by_value::ByValue;
+use loops::cutting::{burst_tests, cuts, placed_cuts};
+use loops::grown::{Grown, GrownByValue};
+use loops::in_place::InPlace;
+use loops::{cancels, infos, jobs, jobs_and_cancels, rounds};
+
 // Calls by value.
 #[unsafe(no_mangle)]
 pub extern "C" fn luvdrog_time_cancels(plan: &[u8], times: u32) -> u64
     ensures { result ≡ cancel_total (loaded_manager plan.now) times }
 {
-    loops::cancels(plan, times)
+    cancels::<ByValue>(plan, times)
 }
 
 #[unsafe(no_mangle)]
 pub extern "C" fn luvdrog_time_jobs(plan: &[u8], kind: u8, length: u32, times: u32) -> u64
     ensures { result ≡ job_total kind length (loaded_manager plan.now) times }
 {
-    loops::jobs(plan, kind, length, times)
+    jobs::<ByValue>(plan, kind, length, times)
 }
 
 #[unsafe(no_mangle)]
 pub extern "C" fn luvdrog_time_job_and_cancel(plan: &[u8], kind: u8, length: u32, times: u32) -> u64
     ensures { result ≡ pair_total kind length (loaded_manager plan.now) times }
 {
-    loops::jobs_and_cancels(plan, kind, length, times)
+    jobs_and_cancels::<ByValue>(plan, kind, length, times)
 }
 
 #[unsafe(no_mangle)]
 pub extern "C" fn luvdrog_time_infos(plan: &[u8], kind: u8, length: u32, times: u32) -> u64
     ensures { result ≡ info_total (busy_manager kind length plan.now) times }
 {
-    loops::infos(plan, kind, length, times)
+    infos(plan, kind, length, times)
 }
 
 #[unsafe(no_mangle)]
@@ -51,7 +57,7 @@ pub extern "C" fn luvdrog_time_rounds(
     ensures image_after { image.new ≡ (bench_after (busy_manager kind length plan.now) (memory_of image.old store.old) (answers_of answer) times).lent.image }
     ensures store_after { store.new ≡ (bench_after (busy_manager kind length plan.now) (memory_of image.old store.old) (answers_of answer) times).lent.store }
 {
-    loops::rounds(plan, kind, length, answer, times, image, store)
+    rounds::<ByValue>(plan, kind, length, answer, times, image, store)
 }
 
 // An owner in place.
@@ -59,14 +65,14 @@ pub extern "C" fn luvdrog_time_rounds(
 pub extern "C" fn luvdrog_time_cancels_in_place(plan: &[u8], times: u32) -> u64
     ensures { result ≡ cancel_total (loaded_manager plan.now) times }
 {
-    loops::in_place::cancels(plan, times)
+    cancels::<InPlace>(plan, times)
 }
 
 #[unsafe(no_mangle)]
 pub extern "C" fn luvdrog_time_jobs_in_place(plan: &[u8], kind: u8, length: u32, times: u32) -> u64
     ensures { result ≡ job_total kind length (loaded_manager plan.now) times }
 {
-    loops::in_place::jobs(plan, kind, length, times)
+    jobs::<InPlace>(plan, kind, length, times)
 }
 
 #[unsafe(no_mangle)]
@@ -78,7 +84,7 @@ pub extern "C" fn luvdrog_time_job_and_cancel_in_place(
 ) -> u64
     ensures { result ≡ pair_total kind length (loaded_manager plan.now) times }
 {
-    loops::in_place::jobs_and_cancels(plan, kind, length, times)
+    jobs_and_cancels::<InPlace>(plan, kind, length, times)
 }
 
 #[unsafe(no_mangle)]
@@ -95,7 +101,7 @@ pub extern "C" fn luvdrog_time_rounds_in_place(
     ensures image_after { image.new ≡ (bench_after (busy_manager kind length plan.now) (memory_of image.old store.old) (answers_of answer) times).lent.image }
     ensures store_after { store.new ≡ (bench_after (busy_manager kind length plan.now) (memory_of image.old store.old) (answers_of answer) times).lent.store }
 {
-    loops::in_place::rounds(plan, kind, length, answer, times, image, store)
+    rounds::<InPlace>(plan, kind, length, answer, times, image, store)
 }
 
 // Both forms on a grown manager.
@@ -108,7 +114,7 @@ pub extern "C" fn luvdrog_time_grown_job_and_cancel(
 ) -> u64
     ensures { result ≡ pair_total kind length (loaded_manager plan.now) times }
 {
-    loops::grown::jobs_and_cancels(plan, kind, length, times)
+    jobs_and_cancels::<GrownByValue>(plan, kind, length, times)
 }
 
 #[unsafe(no_mangle)]
@@ -125,7 +131,7 @@ pub extern "C" fn luvdrog_time_grown_rounds(
     ensures image_after { image.new ≡ (bench_after (busy_manager kind length plan.now) (memory_of image.old store.old) (answers_of answer) times).lent.image }
     ensures store_after { store.new ≡ (bench_after (busy_manager kind length plan.now) (memory_of image.old store.old) (answers_of answer) times).lent.store }
 {
-    loops::grown::rounds(plan, kind, length, answer, times, image, store)
+    rounds::<GrownByValue>(plan, kind, length, answer, times, image, store)
 }
 
 #[unsafe(no_mangle)]
@@ -137,7 +143,7 @@ pub extern "C" fn luvdrog_time_grown_job_and_cancel_in_place(
 ) -> u64
     ensures { result ≡ pair_total kind length (loaded_manager plan.now) times }
 {
-    loops::grown::jobs_and_cancels_in_place(plan, kind, length, times)
+    jobs_and_cancels::<Grown>(plan, kind, length, times)
 }
 
 #[unsafe(no_mangle)]
@@ -154,7 +160,7 @@ pub extern "C" fn luvdrog_time_grown_rounds_in_place(
     ensures image_after { image.new ≡ (bench_after (busy_manager kind length plan.now) (memory_of image.old store.old) (answers_of answer) times).lent.image }
     ensures store_after { store.new ≡ (bench_after (busy_manager kind length plan.now) (memory_of image.old store.old) (answers_of answer) times).lent.store }
 {
-    loops::grown::rounds_in_place(plan, kind, length, answer, times, image, store)
+    rounds::<Grown>(plan, kind, length, answer, times, image, store)
 }
 
 // Cutting alone.
@@ -162,19 +168,19 @@ pub extern "C" fn luvdrog_time_grown_rounds_in_place(
 pub extern "C" fn luvdrog_time_burst_tests(sizes: &[u64], addresses: &[u64]) -> u64
     ensures { result ≡ multiple_count sizes.now addresses.now }
 {
-    loops::cutting::burst_tests(sizes, addresses)
+    burst_tests(sizes, addresses)
 }
 
 #[unsafe(no_mangle)]
 pub extern "C" fn luvdrog_time_cuts(plan: &[u8], kind: u8, length: u32, times: u32) -> u64
     ensures { result ≡ cut_total (loaded_manager plan.now).plan (task_of kind length) times }
 {
-    loops::cutting::cuts(plan, kind, length, times)
+    cuts(plan, kind, length, times)
 }
 
 #[unsafe(no_mangle)]
 pub extern "C" fn luvdrog_time_placed_cuts(plan: &[u8], kind: u8, length: u32, times: u32) -> u64
     ensures { result ≡ placed_total (loaded_manager plan.now).plan.sub_areas (task_of kind length) times }
 {
-    loops::cutting::placed_cuts(plan, kind, length, times)
+    placed_cuts(plan, kind, length, times)
 }

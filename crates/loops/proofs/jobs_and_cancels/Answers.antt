@@ -1,25 +1,30 @@
-use Prim.Native.Nat.{◌+◌}
-use mathlib.Core.Path.{refl, ap₂, ◌∙◌}
-use native.Mathlib.Omega.{arith}
-use Rattle.loops.specs.Repeated.{repeated, total, repeated_more, total_more, pair_total}
+use Rattle.std.proofs.Common.{◌+◌, ◌≡◌, refl, ap, ap₂, ◌∙◌, arith}
+use Rattle.manager.specs.Calls.{job_number_of, after_job}
+use Rattle.loops.specs.Repeated.{turn, repeated, total, repeated_more, total_more, pair_total}
 use Rattle.loops.proofs.jobs_and_cancels.Goals as goal
 
 pub loop-i-init : goal.loop-i-init
 unfolding repeated total
-loop-i-init c = (omega arith, refl, refl, omega arith)
+loop-i-init g c = (refl, refl, omega arith)
 
 pub loop-i-preserved : goal.loop-i-preserved
-loop-i-preserved c =
+loop-i-preserved g c =
     let here = c.loop-i in
     let inv = here.invariant in
+    let task = c.task_of-task.ensures.value in
     let begun = c.submit-begun.ensures in
-    let ended = c.cancel-ended.ensures in (
-      omega arith,
-      rw (repeated_more, ← inv.1, ← begun.manager_value) ended.manager_value,
-      rw (total_more, ← inv.1, ← inv.2, ← begun.manager_value)
-          (ap₂ (λ x y. here.sum + (x + y)) (c.number-first_number.ensures ∙ begun.answer_value) (c.number-second_number.ensures ∙ ended.answer_value)),
+    let ended = c.cancel-ended.ensures in
+    let m = g.O.Owner.owned here.owner in
+    let next = begun.manager_value ∙ ap (after_job m (turn here.i)) task in
+    let first = c.number.ensures ∙ begun.answer_value ∙ ap (job_number_of m (turn here.i)) task in
+    let second = c.number-in-loop-i.ensures ∙ ended.answer_value in (
+      rw (repeated_more, ← inv.0, ← next) ended.manager_value,
+      rw (total_more, ← inv.0, ← inv.1, ← next) (ap₂ (λ x y. here.sum + (x + y)) first second),
       omega arith,
     )
 
 pub returns : goal.returns
-returns c = c.loop-i.invariant.2 ∙ ap₂ (pair_total _ _) c.load-loaded.ensures.manager_value (omega arith)
+returns g c =
+    let here = c.loop-i in
+    let none : here.sum + c.rest.result ≡ here.sum = omega (arith, c.rest.ensures) in
+    none ∙ here.invariant.1 ∙ ap₂ (pair_total _ _) (c.of-owner.ensures ∙ c.load.ensures.manager_value) (omega arith)

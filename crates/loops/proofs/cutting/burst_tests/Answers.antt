@@ -1,22 +1,27 @@
-use Prim.Native.Nat.{◌+◌}
-use mathlib.Core.Path.{refl, ap, ◌∙◌}
-use native.Mathlib.Omega.{arith}
+use Rattle.std.proofs.Common.{◌+◌, ◌≤◌, ◌≡◌, Bool, true, false, refl, ap, ◌∙◌, arith}
+use Rattle.std.specs.Int.{from_bool}
 use Rattle.arith.specs.Bounded.{sum, sum_more}
 use Rattle.arith.specs.Cases.{pick}
 use Rattle.loops.specs.Cutting.{multiple_count}
 use Rattle.loops.proofs.cutting.burst_tests.Goals as goal
 
+one_if : (b : Bool) → (from_bool b ≡ pick b 1 0) × (from_bool b ≤ 1)
+one_if true = (refl, omega arith)
+one_if false = (refl, omega arith)
+
 pub loop-i-init : goal.loop-i-init
 unfolding sum
-loop-i-init c = (c.min-n.ensures, refl, omega arith)
+loop-i-init c = (refl, omega arith)
 
 pub loop-i-preserved : goal.loop-i-preserved
-loop-i-preserved c = let inv = c.loop-i.invariant in (
-  inv.0,
-  rw (sum_more, ← inv.1) (ap (◌+◌ _) (c.one_if-count.ensures.0 ∙ ap (λ yes. pick yes 1 0) c.is_multiple.ensures)),
-  omega arith,
-)
+loop-i-preserved c =
+    let here = c.loop-i in
+    let one = one_if c.is_multiple.result in
+    let counted = c.from-count.ensures ∙ one.0 ∙ ap (λ yes. pick yes 1 0) c.is_multiple.ensures in (
+      rw (sum_more, ← here.invariant.0) (ap (◌+◌ here.count) counted),
+      omega (arith, one.1, c.from-count.ensures, here.invariant.1),
+    )
 
 pub returns : goal.returns
 unfolding multiple_count
-returns c = c.loop-i.invariant.1 ∙ ap (sum _) (omega arith)
+returns c = c.loop-i.invariant.0 ∙ ap (sum _) (omega arith)
