@@ -1,40 +1,13 @@
 -- Questions 12 to 15 by the cases that the code tests.
-use Rattle.std.specs.Prelude.{ℕ, true, false, ◌≡◌, refl, eqb}
+use Rattle.std.specs.Prelude.{ℕ, true, false, ◌≡◌, refl}
 use Rattle.std.proofs.lemmas.Bool.{false≢true}
-use Rattle.std.proofs.Common.{◌∙◌, arith, ne_eqb}
-use Rattle.arith.specs.Cases.{pick}
 use Rattle.arith.specs.FirstNo.{first_no}
-use Rattle.memory.specs.Numbers.{admission_number, refusal_number}
-use Rattle.memory.specs.laws.NumberLaws.{refusal_some}
-use Rattle.memory.specs.declared.Admission.TheVariants.{Accepted, Refused}
 use Rattle.memory.specs.declared.JobType.{JobType}
 use Rattle.memory.specs.declared.JobType.TheVariants.{NoJob, Write, Read, Compare, Erase, BlankCheck, Lock}
-use Rattle.memory.specs.declared.Refusal.{Refusal}
 use Rattle.memory.specs.declared.Task.{Task}
 use Rattle.plan.specs.declared.records.Plan.{Plan}
 use Rattle.rules.specs.Admission.{is_inside, is_aligned, uses_window, fits_window, if_asked, on_one_device, range_questions}
 use Rattle.segment.specs.Segments.{is_lock}
-use Rattle.admission.specs.declared.JobAnswer.{JobAnswer}
-
--- how many retries an answer of number n holds: m, those of the job's first segment, where it is accepted, and else none
-unfoldable pub retries_for : ℕ → ℕ → ℕ
-retries_for n m = pick (eqb n 0) m 0
-
-pub accepted_retries : (n m r : ℕ) → r ≡ retries_for n m → n ≡ 0 → r ≡ m
-unfolding retries_for
-accepted_retries n m r e z = e ∙ rw z
-
--- a refused job has that number, and no retries
-pub refuses : (j : JobAnswer) (q : Refusal) → j ≡ record { answer = Refused q; retries = 0 } → (n : ℕ) → refusal_number q ≡ n → (m : ℕ) →
-    (admission_number j.answer ≡ n) × (j.retries ≡ retries_for (admission_number j.answer) m)
-unfolding retries_for
-refuses j q e n h m = rw e (h, rw (ne_eqb (refusal_number q) 0 (λ z. omega (arith, refusal_some q))))
-
--- an accepted one has r, those of its first segment
-pub accepts : (j : JobAnswer) (r : ℕ) → j ≡ record { answer = Accepted; retries = r } → (n : ℕ) → 0 ≡ n → (m : ℕ) → r ≡ m →
-    (admission_number j.answer ≡ n) × (j.retries ≡ retries_for (admission_number j.answer) m)
-unfolding retries_for
-accepts j r e n h m is = rw e (h, is)
 
 -- a lock request uses no window
 lock_no_window : (k : JobType) → is_lock k ≡ true → uses_window k ≡ false

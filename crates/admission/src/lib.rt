@@ -1,50 +1,21 @@
 // Questions 12 to 15 in code: a range of an area.
 #![tactic(auto)]
 
-ghost use Rattle.std.specs.Prelude.{◌≡◌, true, ◌&&◌, ◌+◌, ◌-◌, ◌≤◌, ◌<◌, leb};
+ghost use Rattle.std.specs.Prelude.{◌≡◌, IfOk, true, ◌&&◌, ◌+◌, ◌-◌, ◌≤◌, ◌<◌, leb};
 ghost use Rattle.arith.specs.FirstNo.{first_no};
 ghost use Rattle.arith.specs.Multiples.{multiple};
 ghost use Rattle.memory.specs.Numbers.{admission_number};
-ghost use Rattle.memory.specs.declared.Admission.TheVariants.{Accepted, Refused};
 ghost use Rattle.segment.specs.Mapping.{mapped};
 ghost use Rattle.segment.specs.Segments.{unit_of, segment_at};
-ghost use Rattle.admission.specs.AdmissionLaws.{retries_for};
 ghost use Rattle.admission.specs.RangeLaws.{offset_of, last_byte, Behind, back_from};
 ghost use Rattle.rules.specs.Admission.{is_inside, uses_window, if_asked, lock_task, on_one_device, range_device, range_questions};
 
-use memory::{Admission, JobType, LogicalAddress, MemAddress, Refusal, Task};
+use memory::{JobType, LogicalAddress, MemAddress, Refusal, Task};
 use multiples::is_multiple;
 use plan::records::{AreaRecord, Plan, SubAreaRecord};
 use segment::{
     FoundByte, index_of, is_lock, locate, map_address, segment_at, segment_found, unit_of,
 };
-
-// The answer to a job and, where it is accepted, how many retries its first segment may take: its questions have found that segment. Where it is refused that is 0.
-#[derive(Clone, Copy)]
-pub struct JobAnswer {
-    pub answer: Admission,
-    pub retries: u8,
-}
-
-impl JobAnswer {
-    pub fn refused(refusal: Refusal) -> JobAnswer
-        ensures { result ≡ record { answer = Refused refusal; retries = 0 } }
-    {
-        JobAnswer {
-            answer: Admission::Refused(refusal),
-            retries: 0,
-        }
-    }
-
-    fn accepted(retries: u8) -> JobAnswer
-        ensures { result ≡ record { answer = Accepted; retries = retries } }
-    {
-        JobAnswer {
-            answer: Admission::Accepted,
-            retries,
-        }
-    }
-}
 
 fn offset_of(found: Option<FoundByte>) -> u64
     ensures { result ≡ offset_of found }
@@ -181,11 +152,11 @@ pub fn on_one_device(plan: Plan, area: usize, address: LogicalAddress, n: u32) -
     true
 }
 
-// Questions 12 to 15, in their order.
-pub fn range_admission(plan: Plan, area: usize, task: Task) -> JobAnswer
+// Questions 12 to 15, in their order. Accepted, a job is answered with how many retries its first segment may take: its questions have found that segment.
+pub fn range_admission(plan: Plan, area: usize, task: Task) -> Result<u8, Refusal>
     requires { (plan.sub_area_count ≤ 32) × (area < 8) }
-    ensures answer_value { admission_number result.answer ≡ first_no 12 (range_questions plan area task) }
-    ensures retries_value { result.retries ≡ retries_for (admission_number result.answer) (segment_at plan area task 0).retries }
+    ensures answer_value { admission_number result ≡ first_no 12 (range_questions plan area task) }
+    ensures retries_value { IfOk result (λ retries. retries ≡ (segment_at plan area task 0).retries) }
 {
     let record = plan.areas[area];
     let start = record.start;
@@ -193,14 +164,14 @@ pub fn range_admission(plan: Plan, area: usize, task: Task) -> JobAnswer
     let n = task.length;
     let last = last_byte(plan.sub_areas, plan.sub_area_count, start, area, address, n);
     if last.is_none() {
-        return JobAnswer::refused(Refusal::Range);
+        return Err(Refusal::Range);
     }
     let kind = task.kind;
     if is_lock(kind) {
         if !on_one_device(plan, area, address, n) {
-            return JobAnswer::refused(Refusal::SeveralDevices);
+            return Err(Refusal::SeveralDevices);
         }
-        return JobAnswer::accepted(0);
+        return Ok(0);
     }
     let first = first_byte(plan, area, task, last);
     let i = index_of(first);
@@ -208,11 +179,11 @@ pub fn range_admission(plan: Plan, area: usize, task: Task) -> JobAnswer
     let j = index_of(last);
     let ends = plan.sub_areas[j];
     if !is_aligned(kind, begins, first, ends, last) {
-        return JobAnswer::refused(Refusal::Alignment);
+        return Err(Refusal::Alignment);
     }
     if !fits_window(record, task) {
-        return JobAnswer::refused(Refusal::WindowLength);
+        return Err(Refusal::WindowLength);
     }
     let segment = segment_found(task, 0, begins, first);
-    JobAnswer::accepted(segment.retries)
+    Ok(segment.retries)
 }

@@ -19,7 +19,7 @@ use job_rows::{JobFacts, figure_sum};
 use lines::{Line, line_of, part_end};
 use manager::Manager;
 use manager::in_place::job_change;
-use memory::Task;
+use memory::{Task, answer_number};
 use plan::records::Plan;
 use plan_rows::is_on;
 use rows::{Form, JobForm, Row};
@@ -74,16 +74,15 @@ pub fn next_job(input: &[u8], at: usize, devices: usize) -> JobAt
 fn number_of(manager: Manager, area: usize, task: Task) -> u8
     ensures { result ≡ job_number_of manager area task }
 {
-    job_change(
+    let change = job_change(
         manager.plan,
         manager.areas,
         manager.devices,
         manager.ages,
         area,
         task,
-    )
-    .answer
-    .number()
+    );
+    answer_number(change.answer)
 }
 
 // May a job of area b rank above one of area a?

@@ -32,13 +32,11 @@ impl Change {
     pub fn none(areas: [Area; 8], devices: [Device; 4], ages: [u8; 8], answer: Admission) -> Change
         ensures { result ≡ unchanged areas devices ages answer }
     {
-        let area = areas[0];
-        let device = devices[0];
         Change {
             area_number: 0,
-            area,
+            area: areas[0],
             device_number: 0,
-            device,
+            device: devices[0],
             ages,
             answer,
         }
@@ -57,20 +55,16 @@ pub struct AskedArea {
 fn place(area: usize) -> usize
     ensures { (result ≡ place_of area) × (result < 8) }
 {
-    if 8 <= area {
-        return 0;
-    }
-    area
+    if area < 8 { area } else { 0 }
 }
 
 pub fn ask(plan: Plan, areas: [Area; 8], devices: [Device; 4], area: usize) -> AskedArea
     ensures value { result ≡ asked_area plan areas devices area }
     ensures number_bound { result.number < 8 }
 {
-    let sound = is_sound(plan, areas, devices);
     let number = place(area);
     AskedArea {
-        sound,
+        sound: is_sound(plan, areas, devices),
         number,
         area: areas[number],
     }
@@ -83,32 +77,26 @@ pub fn begin(plan: Plan, asked: AskedArea, device: Device, ages: [u8; 8], task: 
     ensures value { result ≡ begun_change result.answer plan asked device ages task }
 {
     let number = asked.number;
-    let area = asked.area;
-    let range = range_admission(plan, number, task);
-    let answer = range.answer;
-    match answer {
-        Admission::Refused(_) => Change {
+    match range_admission(plan, number, task) {
+        Err(refusal) => Change {
             area_number: number,
-            area,
+            area: asked.area,
             device_number: 0,
             device,
             ages,
-            answer,
+            answer: Err(refusal),
         },
-        Admission::Accepted => {
-            let job = begun(task, range.retries, area.job);
-            let fresh = Area::fresh();
-            let waits = fresh.waits;
-            let ages = ages_after(ages, number);
-            Change {
-                area_number: number,
-                area: Area { job, waits },
-                device_number: 0,
-                device,
-                ages,
-                answer,
-            }
-        }
+        Ok(retries) => Change {
+            area_number: number,
+            area: Area {
+                job: begun(task, retries, asked.area.job),
+                ..Area::fresh()
+            },
+            device_number: 0,
+            device,
+            ages: ages_after(ages, number),
+            answer: Ok(()),
+        },
     }
 }
 
@@ -117,16 +105,13 @@ pub fn stop(plan: Plan, asked: AskedArea, devices: [Device; 4], ages: [u8; 8]) -
     requires { (plan.sub_area_count ≤ 32) × (asked.number < 8) }
     ensures { result ≡ stopped_change plan asked devices ages }
 {
-    let number = asked.number;
-    let area = asked.area;
-    let job = cancelled_job(plan, area.job, devices, number);
-    let waits = area.waits;
+    let job = cancelled_job(plan, asked.area.job, devices, asked.number);
     Change {
-        area_number: number,
-        area: Area { job, waits },
+        area_number: asked.number,
+        area: Area { job, ..asked.area },
         device_number: 0,
         device: devices[0],
         ages,
-        answer: Admission::Accepted,
+        answer: Ok(()),
     }
 }

@@ -11,7 +11,7 @@ pub mod query_views;
 
 use crate::query_views::QueryView;
 use manager::Manager;
-use memory::{JobResult, LogicalAddress};
+use memory::{JobResult, LogicalAddress, answer_number};
 use plan::records::Plan;
 use session::play_all;
 use state::{Area, Device, DeviceState, Job, SuspendedErase, Waits};
@@ -146,7 +146,7 @@ pub extern "C" fn luvdrog_load(bytes: &[u8]) -> LoadView
     let ages = manager.ages;
     let wear = manager.wear;
     LoadView {
-        number: loaded.answer.number(),
+        number: answer_number(loaded.answer),
         plan: manager.plan,
         areas: manager.areas.map(AreaView::from),
         devices: manager.devices.map(DeviceView::from),

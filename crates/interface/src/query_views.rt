@@ -4,7 +4,7 @@ ghost use Rattle.std.specs.Prelude.{◌≡◌};
 ghost use Rattle.interface.specs.Queries.{status_view, result_view, processed_view, job_info_view, memory_info_view, wear_info_view, query_view};
 
 use manager::Manager;
-use memory::{JobResult, LogicalAddress, MemAddress};
+use memory::{JobResult, LogicalAddress, MemAddress, answer_number};
 use plan::records::Granularity;
 use state::Waits;
 
@@ -87,7 +87,7 @@ impl StatusView {
     {
         let asked = manager.status(area);
         StatusView {
-            number: asked.answer.number(),
+            number: answer_number(asked.answer),
             status: asked.status,
         }
     }
@@ -99,7 +99,7 @@ impl ResultView {
     {
         let asked = manager.result(area);
         ResultView {
-            number: asked.answer.number(),
+            number: answer_number(asked.answer),
             result: asked.result,
         }
     }
@@ -111,7 +111,7 @@ impl ProcessedView {
     {
         let asked = manager.processed(area);
         ProcessedView {
-            number: asked.answer.number(),
+            number: answer_number(asked.answer),
             processed: asked.processed,
         }
     }
@@ -124,7 +124,7 @@ impl JobInfoView {
         let asked = manager.job_info(area);
         let info = asked.info;
         JobInfoView {
-            number: asked.answer.number(),
+            number: answer_number(asked.answer),
             kind: info.task.kind.number(),
             address: info.task.address,
             length: info.task.length,
@@ -146,7 +146,7 @@ impl MemoryInfoView {
         let asked = manager.memory_info(area, address);
         let info = asked.info;
         MemoryInfoView {
-            number: asked.answer.number(),
+            number: answer_number(asked.answer),
             logical_start: info.logical_start,
             physical_start: info.physical_start,
             max_offset: info.max_offset,
@@ -164,7 +164,7 @@ impl WearInfoView {
     {
         let asked = manager.wear_info(area, address);
         WearInfoView {
-            number: asked.answer.number(),
+            number: answer_number(asked.answer),
             sum: asked.info.sum,
             charge: asked.info.charge,
         }

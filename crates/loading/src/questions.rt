@@ -13,26 +13,23 @@ pub(crate) fn admission(plan: Plan) -> Admission
     requires { counts_fit plan.device_count plan.area_count plan.sub_area_count ≡ true }
     ensures { admission_number result ≡ first_no 3 (record_questions plan) }
 {
-    let devices = plan.devices;
-    if !devices_join(devices, plan.device_count) {
-        return Admission::Refused(Refusal::Devices);
+    if !devices_join(plan.devices, plan.device_count) {
+        return Err(Refusal::Devices);
     }
-    let areas = plan.areas;
-    if !windows_fit(areas, plan.area_count) {
-        return Admission::Refused(Refusal::Windows);
+    if !windows_fit(plan.areas, plan.area_count) {
+        return Err(Refusal::Windows);
     }
-    let sub_areas = plan.sub_areas;
-    if !all_sizes_fit(sub_areas, plan.sub_area_count) {
-        return Admission::Refused(Refusal::Sizes);
+    if !all_sizes_fit(plan.sub_areas, plan.sub_area_count) {
+        return Err(Refusal::Sizes);
     }
     if !places_fit(plan) {
-        return Admission::Refused(Refusal::Placement);
+        return Err(Refusal::Placement);
     }
     if !spaces_fit(plan) {
-        return Admission::Refused(Refusal::AreaSpaces);
+        return Err(Refusal::AreaSpaces);
     }
-    if !all_apart(sub_areas, plan.sub_area_count) {
-        return Admission::Refused(Refusal::SharedBytes);
+    if !all_apart(plan.sub_areas, plan.sub_area_count) {
+        return Err(Refusal::SharedBytes);
     }
-    Admission::Accepted
+    Ok(())
 }

@@ -20,7 +20,7 @@ pub mod in_place;
 
 use crate::by_value::ByValue;
 use manager::Manager;
-use memory::{Admission, DeviceAnswer, JobType, LogicalAddress, Task};
+use memory::{Admission, DeviceAnswer, JobType, LogicalAddress, Task, answer_number};
 
 // Who holds a manager and makes calls on it. The calls in place are inlined into the loops: a loop then hands on the parts of
 // the manager that stands in it, with no copy of them.
@@ -102,7 +102,7 @@ pub fn cancels<O: Owner>(plan: &[u8], times: u32) -> u64
     let mut sum: u64 = 0;
     for i in 0..times {
         let answer = owner.cancel((i % 8) as usize);
-        sum += answer.number() as u64;
+        sum += answer_number(answer) as u64;
     }
     sum + owner.rest(times)
 }
@@ -116,7 +116,7 @@ pub fn jobs<O: Owner>(plan: &[u8], kind: u8, length: u32, times: u32) -> u64
     let mut sum: u64 = 0;
     for i in 0..times {
         let answer = owner.submit((i % 8) as usize, task);
-        sum += answer.number() as u64;
+        sum += answer_number(answer) as u64;
     }
     sum + owner.rest(times)
 }
@@ -132,7 +132,7 @@ pub fn jobs_and_cancels<O: Owner>(plan: &[u8], kind: u8, length: u32, times: u32
         let area = (i % 8) as usize;
         let begun = owner.submit(area, task);
         let ended = owner.cancel(area);
-        sum += begun.number() as u64 + ended.number() as u64;
+        sum += answer_number(begun) as u64 + answer_number(ended) as u64;
     }
     sum + owner.rest(times)
 }
@@ -194,7 +194,7 @@ pub fn rounds<O: Owner>(
     let mut sum: u64 = 0;
     for _turn in 0..times {
         let answer = owner.round(answers, image, store);
-        sum += answer.number() as u64;
+        sum += answer_number(answer) as u64;
     }
     sum + owner.rest(times) + left_sum(owner.manager())
 }

@@ -41,8 +41,8 @@ pub fn job_change(
     let asked = ask(plan, areas, devices, area);
     let answer = idle_admission(asked.sound, plan.area_count, area, asked.area.job);
     match answer {
-        Admission::Refused(_) => Change::none(areas, devices, ages, answer),
-        Admission::Accepted => begin(plan, asked, devices[0], ages, task),
+        Err(_) => Change::none(areas, devices, ages, answer),
+        Ok(()) => begin(plan, asked, devices[0], ages, task),
     }
 }
 
@@ -60,8 +60,8 @@ pub fn cancel_change(
     let asked = ask(plan, areas, devices, area);
     let answer = cancel_admission(asked.sound, plan.area_count, area, asked.area.job);
     match answer {
-        Admission::Refused(_) => Change::none(areas, devices, ages, answer),
-        Admission::Accepted => stop(plan, asked, devices, ages),
+        Err(_) => Change::none(areas, devices, ages, answer),
+        Ok(()) => stop(plan, asked, devices, ages),
     }
 }
 
@@ -81,8 +81,8 @@ pub fn release_change(
     let sound = is_sound(plan, areas, devices);
     let answer = release_admission(sound, plan, devices, area, address, length);
     match answer {
-        Admission::Refused(_) => Change::none(areas, devices, ages, answer),
-        Admission::Accepted => {
+        Err(_) => Change::none(areas, devices, ages, answer),
+        Ok(()) => {
             let number = range_device(plan, area, address, length) as usize;
             let old = devices[number];
             let suspended = old.suspended;
@@ -117,13 +117,13 @@ pub fn round_change(
     let asked = round_admission(plan, areas, devices, image, store);
     let answer = asked.answer;
     match answer {
-        Admission::Refused(_) => RoundChange {
+        Err(_) => RoundChange {
             areas,
             devices,
             worn: [Worn::none(); 4],
             answer,
         },
-        Admission::Accepted => {
+        Ok(()) => {
             let dues = asked.dues;
             let next = run_round(plan, answers, areas, devices, ages, dues, image, store);
             let areas = next.areas;

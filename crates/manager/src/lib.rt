@@ -112,11 +112,11 @@ pub fn info_of(plan: Plan, areas: [Area; 8], devices: [Device; 4], area: usize) 
     let sound = is_sound(plan, areas, devices);
     let answer = info_admission(sound, plan, area);
     match answer {
-        Admission::Refused(_) => {
+        Err(_) => {
             let info = no_job_info();
             JobInfoAnswer { answer, info }
         }
-        Admission::Accepted => {
+        Ok(()) => {
             let info = job_info(plan, areas, devices, area);
             JobInfoAnswer { answer, info }
         }
@@ -142,18 +142,15 @@ impl Manager {
         ensures answer_value { admission_number result.answer ≡ load_number bytes.now }
         ensures manager_value { result.manager ≡ loaded_manager bytes.now }
     {
-        let loaded = load_plan(bytes);
-        let answer = loaded.answer;
-        let plan = loaded.plan;
-        match answer {
-            Admission::Refused(_) => {
-                let manager = Manager::fresh(plan, [0u8; 8]);
-                Loaded { answer, manager }
-            }
-            Admission::Accepted => {
-                let manager = Manager::fresh(plan, [0u8, 1, 2, 3, 4, 5, 6, 7]);
-                Loaded { answer, manager }
-            }
+        match load_plan(bytes) {
+            Err(refusal) => Loaded {
+                answer: Err(refusal),
+                manager: Manager::fresh(Plan::empty(), [0; 8]),
+            },
+            Ok(plan) => Loaded {
+                answer: Ok(()),
+                manager: Manager::fresh(plan, [0, 1, 2, 3, 4, 5, 6, 7]),
+            },
         }
     }
 
@@ -197,11 +194,11 @@ impl Manager {
         let asked = ask(self.plan, areas, devices, area);
         let answer = idle_admission(asked.sound, self.plan.area_count, area, asked.area.job);
         match answer {
-            Admission::Refused(_) => Answered {
+            Err(_) => Answered {
                 answer,
                 manager: self,
             },
-            Admission::Accepted => {
+            Ok(()) => {
                 let ages = self.ages;
                 let change = begin(self.plan, asked, devices[0], ages, task);
                 self.with(change)
@@ -302,11 +299,11 @@ impl Manager {
         let asked = ask(self.plan, areas, devices, area);
         let answer = cancel_admission(asked.sound, self.plan.area_count, area, asked.area.job);
         match answer {
-            Admission::Refused(_) => Answered {
+            Err(_) => Answered {
                 answer,
                 manager: self,
             },
-            Admission::Accepted => {
+            Ok(()) => {
                 let ages = self.ages;
                 let change = stop(self.plan, asked, devices, ages);
                 self.with(change)
@@ -330,8 +327,8 @@ impl Manager {
     {
         let answer = self.query_admission(area);
         match answer {
-            Admission::Refused(_) => StatusAnswer { answer, status: 0 },
-            Admission::Accepted => {
+            Err(_) => StatusAnswer { answer, status: 0 },
+            Ok(()) => {
                 let job = self.job_of(area);
                 let status = job.status;
                 let number = status.number();
@@ -349,11 +346,11 @@ impl Manager {
     {
         let answer = self.query_admission(area);
         match answer {
-            Admission::Refused(_) => ResultAnswer {
+            Err(_) => ResultAnswer {
                 answer,
                 result: JobResult::OK,
             },
-            Admission::Accepted => {
+            Ok(()) => {
                 let job = self.job_of(area);
                 let result = job.result;
                 ResultAnswer { answer, result }
@@ -367,11 +364,11 @@ impl Manager {
     {
         let answer = self.query_admission(area);
         match answer {
-            Admission::Refused(_) => LengthAnswer {
+            Err(_) => LengthAnswer {
                 answer,
                 processed: 0,
             },
-            Admission::Accepted => {
+            Ok(()) => {
                 let job = self.job_of(area);
                 LengthAnswer {
                     answer,
@@ -401,11 +398,11 @@ impl Manager {
         let sound = is_sound(plan, areas, devices);
         let answer = memory_admission(sound, plan, area, address);
         match answer {
-            Admission::Refused(_) => {
+            Err(_) => {
                 let info = no_memory();
                 MemoryInfoAnswer { answer, info }
             }
-            Admission::Accepted => {
+            Ok(()) => {
                 let info = memory_info(plan, area, address);
                 MemoryInfoAnswer { answer, info }
             }
@@ -423,11 +420,11 @@ impl Manager {
         let sound = is_sound(plan, areas, devices);
         let answer = memory_admission(sound, plan, area, address);
         match answer {
-            Admission::Refused(_) => {
+            Err(_) => {
                 let info = no_wear();
                 WearInfoAnswer { answer, info }
             }
-            Admission::Accepted => {
+            Ok(()) => {
                 let wear = self.wear;
                 let info = wear_info(plan, wear, area, address);
                 WearInfoAnswer { answer, info }

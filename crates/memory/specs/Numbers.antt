@@ -1,13 +1,11 @@
 -- The papers' number for each case of an enum.
-use Rattle.std.specs.Prelude.{ℕ}
+use Rattle.std.specs.Prelude.{ℕ, Result, Ok, Err}
 use Rattle.memory.specs.declared.JobType.{JobType}
 use Rattle.memory.specs.declared.JobType.TheVariants as JobTypes
 use Rattle.memory.specs.declared.JobStatus.{JobStatus}
 use Rattle.memory.specs.declared.JobStatus.TheVariants as Statuses
 use Rattle.memory.specs.declared.Refusal.{Refusal}
 use Rattle.memory.specs.declared.Refusal.TheVariants as Refusals
-use Rattle.memory.specs.declared.Admission.{Admission}
-use Rattle.memory.specs.declared.Admission.TheVariants as Admissions
 
 -- document 01: "Job types are those of 000"; 0 is 000's MEMACC_NO_JOB
 abbrev pub job_type_number : JobType → ℕ
@@ -48,7 +46,11 @@ refusal_number Refusals.ImageLength = 18
 refusal_number Refusals.StoreLength = 19
 refusal_number Refusals.Wear = 20
 
+-- the answer to a call, in the code Admission
+abbrev pub Answer : Type 0
+Answer = Result (Unit {0}) Refusal
+
 -- "The first 'no' gives its number." "Acceptance is 0."
-abbrev pub admission_number : Admission → ℕ
-admission_number Admissions.Accepted = 0
-admission_number (Admissions.Refused q) = refusal_number q
+abbrev pub admission_number : {T : Type 0} → Result T Refusal → ℕ
+admission_number (Ok x) = 0
+admission_number (Err q) = refusal_number q

@@ -12,39 +12,32 @@ pub struct LogicalAddress(pub u32);
 // A physical address: byte p of the image (000: Mem_AddressType). It is wider than a plan's numbers, so that a start and an
 // offset always add up.
 #[repr(C)]
-#[derive(Clone, Copy)]
+#[derive(Clone, Copy, PartialEq, Eq, Default)]
 pub struct MemAddress(pub u64);
 
 // 000: MemAcc_JobType. Number 5, the hardware specific services, is left out.
-#[derive(Clone, Copy)]
+#[derive(Clone, Copy, PartialEq, Eq, Default)]
 pub enum JobType {
-    NoJob,
-    Write,
-    Read,
-    Compare,
-    Erase,
-    BlankCheck,
-    Lock,
+    #[default]
+    NoJob = 0,
+    Write = 1,
+    Read = 2,
+    Compare = 3,
+    Erase = 4,
+    BlankCheck = 6,
+    Lock = 7,
 }
 
 impl JobType {
     pub fn number(self) -> u8
         ensures { result ≡ job_type_number self }
     {
-        match self {
-            JobType::NoJob => 0,
-            JobType::Write => 1,
-            JobType::Read => 2,
-            JobType::Compare => 3,
-            JobType::Erase => 4,
-            JobType::BlankCheck => 6,
-            JobType::Lock => 7,
-        }
+        self as u8
     }
 }
 
 // What a job asks for: its type and its range in the area's logical space.
-#[derive(Clone, Copy)]
+#[derive(Clone, Copy, PartialEq, Eq, Default)]
 pub struct Task {
     pub kind: JobType,
     pub address: LogicalAddress,
@@ -52,7 +45,7 @@ pub struct Task {
 }
 
 // A device's answer in a round: its request goes on, is done, or failed after some bytes.
-#[derive(Clone, Copy)]
+#[derive(Clone, Copy, PartialEq, Eq)]
 pub enum DeviceAnswer {
     Pending,
     Done,
@@ -60,8 +53,9 @@ pub enum DeviceAnswer {
 }
 
 // 000: MemAcc_JobStatusType. A job that was cancelled while its request ran is pending until that request ends.
-#[derive(Clone, Copy)]
+#[derive(Clone, Copy, PartialEq, Eq, Default)]
 pub enum JobStatus {
+    #[default]
     Idle,
     Pending,
     Cancelling,
@@ -71,17 +65,14 @@ impl JobStatus {
     pub fn number(self) -> u8
         ensures { result ≡ status_number self }
     {
-        match self {
-            JobStatus::Idle => 0,
-            JobStatus::Pending => 1,
-            JobStatus::Cancelling => 1,
-        }
+        u8::from(self != JobStatus::Idle)
     }
 }
 
 // 000: MemAcc_JobResultType.
+// stays: a number, as a manager given by value may hold any (Manager::result, luvdrog_query): an enum would ask more of callers.
 #[repr(C)]
-#[derive(Clone, Copy)]
+#[derive(Clone, Copy, PartialEq, Eq, Default)]
 pub struct JobResult(pub u8);
 
 impl JobResult {
@@ -95,73 +86,47 @@ impl JobResult {
 }
 
 // Document 01, "Questions at the door", and document 02: the question that was answered "no".
-#[derive(Clone, Copy)]
+#[derive(Clone, Copy, PartialEq, Eq)]
 pub enum Refusal {
-    Records,
-    Counts,
-    Devices,
-    Windows,
-    Sizes,
-    Placement,
-    AreaSpaces,
-    SharedBytes,
-    Unsound,
-    UnknownArea,
-    Busy,
-    Range,
-    Alignment,
-    WindowLength,
-    SeveralDevices,
-    NotHolder,
-    NotPending,
-    ImageLength,
-    StoreLength,
-    Wear,
+    Records = 1,
+    Counts = 2,
+    Devices = 3,
+    Windows = 4,
+    Sizes = 5,
+    Placement = 6,
+    AreaSpaces = 7,
+    SharedBytes = 8,
+    Unsound = 9,
+    UnknownArea = 10,
+    Busy = 11,
+    Range = 12,
+    Alignment = 13,
+    WindowLength = 14,
+    SeveralDevices = 15,
+    NotHolder = 16,
+    NotPending = 17,
+    ImageLength = 18,
+    StoreLength = 19,
+    Wear = 20,
 }
 
 impl Refusal {
     pub fn number(self) -> u8
         ensures { result ≡ refusal_number self }
     {
-        match self {
-            Refusal::Records => 1,
-            Refusal::Counts => 2,
-            Refusal::Devices => 3,
-            Refusal::Windows => 4,
-            Refusal::Sizes => 5,
-            Refusal::Placement => 6,
-            Refusal::AreaSpaces => 7,
-            Refusal::SharedBytes => 8,
-            Refusal::Unsound => 9,
-            Refusal::UnknownArea => 10,
-            Refusal::Busy => 11,
-            Refusal::Range => 12,
-            Refusal::Alignment => 13,
-            Refusal::WindowLength => 14,
-            Refusal::SeveralDevices => 15,
-            Refusal::NotHolder => 16,
-            Refusal::NotPending => 17,
-            Refusal::ImageLength => 18,
-            Refusal::StoreLength => 19,
-            Refusal::Wear => 20,
-        }
+        self as u8
     }
 }
 
 // The answer to a call.
-#[derive(Clone, Copy)]
-pub enum Admission {
-    Accepted,
-    Refused(Refusal),
-}
+pub type Admission = Result<(), Refusal>;
 
-impl Admission {
-    pub fn number(self) -> u8
-        ensures { result ≡ admission_number self }
-    {
-        match self {
-            Admission::Accepted => 0,
-            Admission::Refused(refusal) => refusal.number(),
-        }
+// The number of an answer, also of one with a value: acceptance is 0.
+pub fn answer_number<T: Copy>(answer: Result<T, Refusal>) -> u8
+    ensures { result ≡ admission_number answer }
+{
+    match answer {
+        Ok(_) => 0,
+        Err(refusal) => refusal.number(),
     }
 }

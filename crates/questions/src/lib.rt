@@ -29,12 +29,12 @@ pub fn info_admission(sound: bool, plan: Plan, area: usize) -> Admission
     ensures { admission_number result ≡ first_no 9 (sound ∷ info_questions plan area) }
 {
     if !sound {
-        return Admission::Refused(Refusal::Unsound);
+        return Err(Refusal::Unsound);
     }
     if plan.area_count <= area {
-        return Admission::Refused(Refusal::UnknownArea);
+        return Err(Refusal::UnknownArea);
     }
-    Admission::Accepted
+    Ok(())
 }
 
 // 9, 10, 12: memory info, with length 1.
@@ -43,15 +43,15 @@ pub fn memory_admission(sound: bool, plan: Plan, area: usize, address: LogicalAd
     ensures { admission_number result ≡ first_no 9 (sound ∷ memory_info_questions plan area address) }
 {
     if !sound {
-        return Admission::Refused(Refusal::Unsound);
+        return Err(Refusal::Unsound);
     }
     if plan.area_count <= area {
-        return Admission::Refused(Refusal::UnknownArea);
+        return Err(Refusal::UnknownArea);
     }
     if !is_inside(plan, area, address, 1) {
-        return Admission::Refused(Refusal::Range);
+        return Err(Refusal::Range);
     }
-    Admission::Accepted
+    Ok(())
 }
 
 // 9, 10, 17: a cancel, of an area with this job.
@@ -59,15 +59,15 @@ pub fn cancel_admission(sound: bool, area_count: usize, area: usize, job: Job) -
     ensures { admission_number result ≡ first_no 9 (sound ∷ ltb area area_count ∷ skip 6 (is_pending job ∷ [])) }
 {
     if !sound {
-        return Admission::Refused(Refusal::Unsound);
+        return Err(Refusal::Unsound);
     }
     if area_count <= area {
-        return Admission::Refused(Refusal::UnknownArea);
+        return Err(Refusal::UnknownArea);
     }
     if !is_pending(job) {
-        return Admission::Refused(Refusal::NotPending);
+        return Err(Refusal::NotPending);
     }
-    Admission::Accepted
+    Ok(())
 }
 
 // 9, 10, 11: one of the five jobs, or a lock request, for an area with this job. Those of its range follow (admission::range_admission).
@@ -75,15 +75,15 @@ pub fn idle_admission(sound: bool, area_count: usize, area: usize, job: Job) -> 
     ensures { admission_number result ≡ first_no 9 (sound ∷ ltb area area_count ∷ not (is_pending job) ∷ []) }
 {
     if !sound {
-        return Admission::Refused(Refusal::Unsound);
+        return Err(Refusal::Unsound);
     }
     if area_count <= area {
-        return Admission::Refused(Refusal::UnknownArea);
+        return Err(Refusal::UnknownArea);
     }
     if is_pending(job) {
-        return Admission::Refused(Refusal::Busy);
+        return Err(Refusal::Busy);
     }
-    Admission::Accepted
+    Ok(())
 }
 
 // 9, 10, 12, 15, 16: a release.
@@ -99,22 +99,22 @@ pub fn release_admission(
     ensures { admission_number result ≡ first_no 9 (sound ∷ release_questions plan (devices_alone devices) area address length) }
 {
     if !sound {
-        return Admission::Refused(Refusal::Unsound);
+        return Err(Refusal::Unsound);
     }
     if plan.area_count <= area {
-        return Admission::Refused(Refusal::UnknownArea);
+        return Err(Refusal::UnknownArea);
     }
     if !is_inside(plan, area, address, length) {
-        return Admission::Refused(Refusal::Range);
+        return Err(Refusal::Range);
     }
     if !on_one_device(plan, area, address, length) {
-        return Admission::Refused(Refusal::SeveralDevices);
+        return Err(Refusal::SeveralDevices);
     }
     let device = range_device(plan, area, address, length);
     if !holds_lock(devices, device as usize, area) {
-        return Admission::Refused(Refusal::NotHolder);
+        return Err(Refusal::NotHolder);
     }
-    Admission::Accepted
+    Ok(())
 }
 
 // 18: is the image as long as the devices together?
@@ -167,15 +167,15 @@ fn round_answer(
         devices,
         dues,
     ) {
-        return Admission::Refused(Refusal::Unsound);
+        return Err(Refusal::Unsound);
     }
     if !image_fits(plan, image) {
-        return Admission::Refused(Refusal::ImageLength);
+        return Err(Refusal::ImageLength);
     }
     if !store_reaches(plan, store) {
-        return Admission::Refused(Refusal::StoreLength);
+        return Err(Refusal::StoreLength);
     }
-    Admission::Accepted
+    Ok(())
 }
 
 // 9, 18, 19: the answer to a round, with the due segments of the pending jobs, which an accepted round goes on with. Of a state
@@ -199,7 +199,7 @@ pub fn round_admission(
     if !counts_fit(plan.device_count, plan.area_count, plan.sub_area_count) {
         let dues = [no_segment(); 8];
         return RoundAdmission {
-            answer: Admission::Refused(Refusal::Unsound),
+            answer: Err(Refusal::Unsound),
             dues,
         };
     }

@@ -12,6 +12,7 @@ ghost use Rattle.session.specs.PlanText.{open_text, image_length_of, manager_in,
 pub mod fold;
 pub mod play;
 
+use memory::answer_number;
 use crate::fold::{Progress, play_lines};
 use manager::Manager;
 use plan::checks::device_sum;
@@ -50,7 +51,7 @@ pub fn open(plan: &[u8], out: &mut [u8]) -> Result<Opened, Closed>
         let written = question_line(out, 0);
         return Err(Closed { manager, written });
     }
-    let number = loaded.answer.number();
+    let number = answer_number(loaded.answer);
     if 0 < number {
         let written = number_line(out, 0, number as u64);
         return Err(Closed { manager, written });

@@ -15,7 +15,7 @@ use changes::Change;
 use lines::{Line, LineCall, Target};
 use manager::in_place::{RoundChange, cancel_change, job_change, release_change, round_change};
 use manager::{JobInfoAnswer, Manager, info_of};
-use memory::{Admission, DeviceAnswer, JobType, LogicalAddress, Task};
+use memory::{Admission, DeviceAnswer, JobType, LogicalAddress, Task, answer_number};
 use plan::records::Plan;
 use shown::devices_line;
 use state::{Area, Device};
@@ -96,7 +96,7 @@ pub fn print_answer(out: &mut [u8], at: usize, answer: Admission) -> usize
     requires { at + 338 ≤ length out.old }
     ensures { (Appended out.old out.new at result (number_line (admission_number answer))) × (result ≤ at + 338) }
 {
-    let number = answer.number();
+    let number = answer_number(answer);
     number_line(out, at, number as u64)
 }
 
@@ -105,7 +105,7 @@ pub fn print_info(out: &mut [u8], at: usize, asked: JobInfoAnswer) -> usize
     ensures { (Appended out.old out.new at result (info_text (admission_number asked.answer) asked.info)) × (result ≤ at + 338) }
 {
     let answer = asked.answer;
-    let number = answer.number();
+    let number = answer_number(answer);
     if 0 < number {
         return number_line(out, at, number as u64);
     }
@@ -127,7 +127,7 @@ pub fn print_round(
     requires sub_area_count_bound { admission_number answer ≡ 0 → (plan.sub_area_count ≤ 32) × (plan.device_count ≤ 4) }
     ensures { (Appended out.old out.new at result (if_accepted (admission_number answer) (devices_line plan (core_in areas devices)) (number_line (admission_number answer)))) × (result ≤ at + 338) }
 {
-    let number = answer.number();
+    let number = answer_number(answer);
     if 0 < number {
         return number_line(out, at, number as u64);
     }

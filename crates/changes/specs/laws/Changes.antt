@@ -1,14 +1,12 @@
 -- What is asked and handed back where a call changes an area, by its parts.
-use Rattle.std.specs.Prelude.{ℕ, false, List, ◌≡◌, refl, eqb, leb, get_or}
-use Rattle.std.proofs.Common.{ap, ◌∙◌, arith, eq-eqb, ne_eqb}
+use Rattle.std.specs.Prelude.{ℕ, false, List, ◌≡◌, Ok, Err, refl, eqb, leb, get_or}
+use Rattle.std.proofs.Common.{ap, ◌∙◌, arith, ne_eqb}
 use Rattle.arith.specs.Cases.{pick}
 use Rattle.arith.specs.Tables.{table}
 use Rattle.devices.specs.Arrays.{device_in}
 use Rattle.machine.specs.Sound.{is_sound}
-use Rattle.memory.specs.Numbers.{admission_number}
+use Rattle.memory.specs.Numbers.{Answer, admission_number, refusal_number}
 use Rattle.memory.specs.laws.NumberLaws.{refusal_some}
-use Rattle.memory.specs.declared.Admission.{Admission}
-use Rattle.memory.specs.declared.Admission.TheVariants.{Accepted, Refused}
 use Rattle.memory.specs.declared.Refusal.{Refusal}
 use Rattle.memory.specs.declared.Task.{Task}
 use Rattle.plan.specs.declared.records.Plan.{Plan}
@@ -33,12 +31,12 @@ place_of a = pick (leb 8 a) 0 a
 abbrev pub asked_area : Plan → List Area → List Device → ℕ → AskedArea
 asked_area p areas devices a = record { sound = is_sound p areas devices; number = place_of a; area = get_or areas (place_of a) fresh_area }
 
-abbrev pub unchanged : List Area → List Device → List ℕ → Admission → Change
+abbrev pub unchanged : List Area → List Device → List ℕ → Answer → Change
 unchanged areas devices ages x =
     record { area_number = 0; area = get_or areas 0 fresh_area; device_number = 0; device = get_or devices 0 free_device; ages = ages; answer = x }
 
 -- a job of the range's answer x
-abbrev pub begun_change : Admission → Plan → AskedArea → Device → List ℕ → Task → Change
+abbrev pub begun_change : Answer → Plan → AskedArea → Device → List ℕ → Task → Change
 begun_change x p asked d ages t =
     record {
       area_number = asked.number;
@@ -61,11 +59,11 @@ stopped_change p asked devices ages =
       device_number = 0;
       device = get_or devices 0 free_device;
       ages = ages;
-      answer = Accepted;
+      answer = Ok tt;
     }
 
 -- a call that is refused, with that number
-pub refused_some : (x : Admission) (q : Refusal) → x ≡ Refused q → (n : ℕ) → admission_number x ≡ n → eqb n 0 ≡ false
+pub refused_some : (x : Answer) (q : Refusal) → x ≡ Err q → (n : ℕ) → admission_number x ≡ n → eqb n 0 ≡ false
 refused_some x q e n f = ne_eqb n 0 (λ z. omega (arith, refusal_some q, ap admission_number e, f, z))
 
 -- the job of an accepted task, whose first segment may take r retries
@@ -74,14 +72,14 @@ unfolding layout_of
 begun_first p a t j r is = ap (λ k. begun_with k t j) is
 
 -- what the range's answer makes of the area
-module _ (x : Admission) where
-  pub begun_refused : (q : Refusal) → x ≡ Refused q → (p : Plan) (asked : AskedArea) (d : Device) (ages : List ℕ) (t : Task) →
-      record { area_number = asked.number; area = asked.area; device_number = 0; device = d; ages = ages; answer = x } ≡ begun_change x p asked d ages t
-  begun_refused q e p asked d ages t = rw (refused_some x q e (admission_number x) refl)
+module _ (p : Plan) (asked : AskedArea) (d : Device) (ages : List ℕ) (t : Task) where
+  pub begun_refused : (q : Refusal) →
+      record { area_number = asked.number; area = asked.area; device_number = 0; device = d; ages = ages; answer = Err q } ≡ begun_change (Err q) p asked d ages t
+  begun_refused q = rw (refused_some (Err q) q refl (refusal_number q) refl)
 
-  pub begun_accepted : x ≡ Accepted → (p : Plan) (asked : AskedArea) (d : Device) (ages : List ℕ) (t : Task) (j : Job) (r : ℕ) (w : Waits) (g : List ℕ) →
+  pub begun_accepted : (j : Job) (r : ℕ) (w : Waits) (g : List ℕ) →
       j ≡ begun_with r t asked.area.job → r ≡ (segment_at p asked.number t 0).retries → w ≡ no_waits → g ≡ table 8 (ages_after asked.number (age_in ages)) 0 8 →
-      record { area_number = asked.number; area = record { job = j; waits = w }; device_number = 0; device = d; ages = g; answer = x } ≡ begun_change x p asked d ages t
-  begun_accepted e p asked d ages t j r w g is first none next =
+      record { area_number = asked.number; area = record { job = j; waits = w }; device_number = 0; device = d; ages = g; answer = Ok tt } ≡ begun_change (Ok tt) p asked d ages t
+  begun_accepted j r w g is first none next =
       let job = is ∙ begun_first p asked.number t asked.area.job r first in
-      rw (eq-eqb (admission_number x) 0 (ap admission_number e)) (λ i. record { area_number = asked.number; area = record { job = job i; waits = none i }; device_number = 0; device = d; ages = next i; answer = x })
+      λ i. record { area_number = asked.number; area = record { job = job i; waits = none i }; device_number = 0; device = d; ages = next i; answer = Ok tt }

@@ -9,4 +9,4 @@ returns c =
     let l = c.load-loaded in
     let areas = mapped _ area_view fresh_area 8 (λ p x y q h. search rules) c.map.ensures.items in
     let devices = mapped _ device_view free_device 4 (λ p x y q h. search rules) c.map-2.ensures.items in
-    rw (areas, devices) (view_is _ _ l.result.manager (c.number.ensures ∙ l.ensures.answer_value) l.ensures.manager_value)
+    rw (areas, devices) (view_is _ _ l.result.manager (c.answer_number.ensures ∙ l.ensures.answer_value) l.ensures.manager_value)

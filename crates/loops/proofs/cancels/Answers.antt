@@ -11,7 +11,7 @@ loop-i-preserved g c =
     let inv = c.loop-i.invariant in
     let called = c.cancel-answer.ensures in (
       rw (repeated_more, ← inv.0) called.manager_value,
-      rw (total_more, ← inv.0, ← inv.1) (ap (◌+◌ _) (c.number.ensures ∙ called.answer_value)),
+      rw (total_more, ← inv.0, ← inv.1) (ap (◌+◌ _) (c.answer_number.ensures ∙ called.answer_value)),
       omega arith,
     )
 

@@ -15,7 +15,7 @@ loop-i-preserved g c =
     let called = c.submit-answer.ensures in
     let m = g.O.Owner.owned here.owner in (
       rw (repeated_more, ← inv.0) (called.manager_value ∙ ap (after_job m (turn here.i)) task),
-      rw (total_more, ← inv.0, ← inv.1) (ap (◌+◌ _) (c.number.ensures ∙ called.answer_value ∙ ap (job_number_of m (turn here.i)) task)),
+      rw (total_more, ← inv.0, ← inv.1) (ap (◌+◌ _) (c.answer_number.ensures ∙ called.answer_value ∙ ap (job_number_of m (turn here.i)) task)),
       omega arith,
     )
 

@@ -16,8 +16,8 @@ loop-i-preserved g c =
     let ended = c.cancel-ended.ensures in
     let m = g.O.Owner.owned here.owner in
     let next = begun.manager_value ∙ ap (after_job m (turn here.i)) task in
-    let first = c.number.ensures ∙ begun.answer_value ∙ ap (job_number_of m (turn here.i)) task in
-    let second = c.number-in-loop-i.ensures ∙ ended.answer_value in (
+    let first = c.answer_number.ensures ∙ begun.answer_value ∙ ap (job_number_of m (turn here.i)) task in
+    let second = c.answer_number-in-loop-i.ensures ∙ ended.answer_value in (
       rw (repeated_more, ← inv.0, ← next) ended.manager_value,
       rw (total_more, ← inv.0, ← inv.1, ← next) (ap₂ (λ x y. here.sum + (x + y)) first second),
       omega arith,

@@ -15,7 +15,7 @@ loop-turn-preserved g c =
       omega (arith, inv.0),
       omega (arith, inv.1),
       rw (repeated_more, ← inv.2) (bench_is _ _ _ _ _ done.manager_value done.image_after done.store_after),
-      rw (total_more, ← inv.2, ← inv.3) (ap (◌+◌ here.sum) (c.number.ensures ∙ done.answer_value)),
+      rw (total_more, ← inv.2, ← inv.3) (ap (◌+◌ here.sum) (c.answer_number.ensures ∙ done.answer_value)),
       omega arith,
     )
 

@@ -5,10 +5,10 @@ use Rattle.manager.specs.laws.CallLaws.{info_few, processed_refused, processed_a
 use Rattle.manager.proofs.Manager.processed.Goals as goal
 
 pub job_of-job-requires : goal.job_of-job-requires
-job_of-job-requires c = (info_few c.args.self c.args.area (sym c.query_admission-answer.ensures ∙ ap admission_number c.in-Accepted.is)).1
+job_of-job-requires c = (info_few c.args.self c.args.area (sym c.query_admission-answer.ensures ∙ ap admission_number c.in-Ok.is)).1
 
-pub returns-in-Refused : goal.returns-in-Refused
-returns-in-Refused c = record { answer_value = c.query_admission-answer.ensures; processed_value = processed_refused c.args.self c.args.area (refused_some _ _ c.in-Refused.is _ c.query_admission-answer.ensures) }
+pub returns-in-Err : goal.returns-in-Err
+returns-in-Err c = record { answer_value = c.query_admission-answer.ensures; processed_value = processed_refused c.args.self c.args.area (refused_some _ _ c.in-Err.is _ c.query_admission-answer.ensures) }
 
-pub returns-in-Accepted : goal.returns-in-Accepted
-returns-in-Accepted c = record { answer_value = c.query_admission-answer.ensures; processed_value = processed_accepted c.args.self c.args.area (sym c.query_admission-answer.ensures ∙ ap admission_number c.in-Accepted.is) _ c.job_of-job.ensures }
+pub returns-in-Ok : goal.returns-in-Ok
+returns-in-Ok c = record { answer_value = c.query_admission-answer.ensures; processed_value = processed_accepted c.args.self c.args.area (sym c.query_admission-answer.ensures ∙ ap admission_number c.in-Ok.is) _ c.job_of-job.ensures }

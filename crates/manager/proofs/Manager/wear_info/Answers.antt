@@ -14,22 +14,22 @@ wear_info-info-requires c =
     let a = c.args.area in
     let address = c.args.address in
     let number = memory_number_lem m a _ c.is_sound-sound.ensures _ address c.memory_admission-answer.ensures in
-    let accepted = sym number ∙ ap admission_number c.in-Accepted.is in
+    let accepted = sym number ∙ ap admission_number c.in-Ok.is in
     memory_few m a address accepted
 
-pub returns-in-Refused : goal.returns-in-Refused
-returns-in-Refused c =
+pub returns-in-Err : goal.returns-in-Err
+returns-in-Err c =
     let m = c.args.self in
     let a = c.args.area in
     let address = c.args.address in
     let number = memory_number_lem m a _ c.is_sound-sound.ensures _ address c.memory_admission-answer.ensures in
-    record { answer_value = number; info_value = c.no_wear-info.ensures ∙ wear_refused m a address (refused_some _ _ c.in-Refused.is _ number) }
+    record { answer_value = number; info_value = c.no_wear-info.ensures ∙ wear_refused m a address (refused_some _ _ c.in-Err.is _ number) }
 
-pub returns-in-Accepted : goal.returns-in-Accepted
-returns-in-Accepted c =
+pub returns-in-Ok : goal.returns-in-Ok
+returns-in-Ok c =
     let m = c.args.self in
     let a = c.args.area in
     let address = c.args.address in
     let number = memory_number_lem m a _ c.is_sound-sound.ensures _ address c.memory_admission-answer.ensures in
-    let accepted = sym number ∙ ap admission_number c.in-Accepted.is in
+    let accepted = sym number ∙ ap admission_number c.in-Ok.is in
     record { answer_value = number; info_value = c.wear_info-info.ensures ∙ wear_accepted m a address accepted }

@@ -19,7 +19,7 @@ range_device-number-requires c =
     let a = c.args in
     let m = manager_of a.plan a.areas a.devices a.ages [] in
     let number = release_number_lem m a.area _ c.is_sound-sound.ensures _ a.address a.length c.release_admission-answer.ensures in
-    let accepted = sym number ∙ ap admission_number c.in-Accepted.is in
+    let accepted = sym number ∙ ap admission_number c.in-Ok.is in
     release_few m a.area a.address a.length accepted
 
 pub bounds-devices-number : goal.bounds-devices-number
@@ -27,19 +27,19 @@ bounds-devices-number c =
     let a = c.args in
     let m = manager_of a.plan a.areas a.devices a.ages [] in
     let number = release_number_lem m a.area _ c.is_sound-sound.ensures _ a.address a.length c.release_admission-answer.ensures in
-    let accepted = sym number ∙ ap admission_number c.in-Accepted.is in
+    let accepted = sym number ∙ ap admission_number c.in-Ok.is in
     let long : length a.devices ≡ 4 = c.well_formed.1.1.0.1.0.1 in
     omega (arith, c.range_device-number.ensures, release_known m a.area a.address a.length 4 long accepted)
 
-pub returns-in-Refused : goal.returns-in-Refused
-returns-in-Refused c =
+pub returns-in-Err : goal.returns-in-Err
+returns-in-Err c =
     let a = c.args in
     let number : (wear : List ℕ) → _ = λ wear. release_number_lem (manager_of a.plan a.areas a.devices a.ages wear) a.area _ c.is_sound-sound.ensures _ a.address a.length c.release_admission-answer.ensures in
-    rw c.none.ensures (record { answer_value = number; manager_value = (λ wear. kept a.plan a.areas a.devices a.ages wear c.release_admission-answer.result ∙ release_refused (manager_of a.plan a.areas a.devices a.ages wear) a.area a.address a.length (refused_some _ _ c.in-Refused.is _ (number wear))); numbers_bound = (omega arith, omega arith) })
+    rw c.none.ensures (record { answer_value = number; manager_value = (λ wear. kept a.plan a.areas a.devices a.ages wear c.release_admission-answer.result ∙ release_refused (manager_of a.plan a.areas a.devices a.ages wear) a.area a.address a.length (refused_some _ _ c.in-Err.is _ (number wear))); numbers_bound = (omega arith, omega arith) })
 
-pub returns-in-Accepted : goal.returns-in-Accepted
-returns-in-Accepted c =
+pub returns-in-Ok : goal.returns-in-Ok
+returns-in-Ok c =
     let a = c.args in
     let number : (wear : List ℕ) → _ = λ wear. release_number_lem (manager_of a.plan a.areas a.devices a.ages wear) a.area _ c.is_sound-sound.ensures _ a.address a.length c.release_admission-answer.ensures in
-    let accepted : (wear : List ℕ) → _ = λ wear. sym (number wear) ∙ ap admission_number c.in-Accepted.is in
+    let accepted : (wear : List ℕ) → _ = λ wear. sym (number wear) ∙ ap admission_number c.in-Ok.is in
     let long : length a.devices ≡ 4 = c.well_formed.1.1.0.1.0.1 in record { answer_value = number; manager_value = (λ wear. release_freed a.plan a.areas a.devices a.ages wear a.area a.address a.length c.range_device-number.result c.release_admission-answer.result c.range_device-number.ensures (accepted wear)); numbers_bound = (omega arith, omega (arith, c.range_device-number.ensures, release_known (manager_of a.plan a.areas a.devices a.ages []) a.area a.address a.length 4 long (accepted []))) }
