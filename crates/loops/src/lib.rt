@@ -89,7 +89,7 @@ fn busy(plan: &[u8], kind: u8, length: u32) -> Manager
     let mut owner = ByValue::of(Manager::load(plan).manager);
     let task = task_of(kind, length);
     for area in 0..8 {
-        owner.submit(area, task);
+        let _ = owner.submit(area, task);
     }
     owner.manager()
 }

@@ -90,18 +90,7 @@ pub struct WearInfoAnswer {
 fn no_job_info() -> JobInfo
     ensures { result ≡ no_job_info }
 {
-    let fresh = Area::fresh();
-    let job = fresh.job;
-    let task = job.task;
-    let waits = fresh.waits;
-    let request = no_request();
-    JobInfo {
-        task,
-        result: JobResult::OK,
-        processed: 0,
-        waits,
-        request,
-    }
+    JobInfo::default()
 }
 
 // A job's info for an owner who keeps the manager in one place: ages and wear have no part in it.

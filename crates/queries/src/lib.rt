@@ -21,12 +21,7 @@ use wear::charge_of;
 pub fn no_request() -> RequestInfo
     ensures { result ≡ no_request }
 {
-    RequestInfo {
-        device: 0,
-        start: MemAddress(0),
-        length: 0,
-        polls: 0,
-    }
+    RequestInfo::default()
 }
 
 // The area's request, which is its segment, where the device runs it.
@@ -86,15 +81,7 @@ pub fn job_info(plan: Plan, areas: [Area; 8], devices: [Device; 4], area: usize)
 pub fn no_memory() -> MemoryInfo
     ensures { result ≡ no_memory_info }
 {
-    MemoryInfo {
-        logical_start: LogicalAddress(0),
-        physical_start: MemAddress(0),
-        max_offset: 0,
-        erase: Granularity { unit: 0, burst: 0 },
-        write: Granularity { unit: 0, burst: 0 },
-        read: Granularity { unit: 0, burst: 0 },
-        device: 0,
-    }
+    MemoryInfo::default()
 }
 
 // The sub-area in which the address lies at this offset.
@@ -128,7 +115,7 @@ pub fn memory_info(plan: Plan, area: usize, address: LogicalAddress) -> MemoryIn
 pub fn no_wear() -> WearInfo
     ensures { result ≡ no_wear_info }
 {
-    WearInfo { sum: 0, charge: 0 }
+    WearInfo::default()
 }
 
 // The wear of the sub-area in which the address lies, by the sums of the sub-areas.

@@ -21,7 +21,7 @@ pub struct FoundByte {
 
 // A part of a job for one driver request: in one sub-area, whose sector it names, with the retries that it may take. The wide fields stand first, since a
 // round then moves its segments fastest.
-#[derive(Clone, Copy)]
+#[derive(Clone, Copy, Default)]
 pub struct Segment {
     pub start: MemAddress,
     pub length: u64,
@@ -169,14 +169,7 @@ fn segment_in(
 pub fn no_segment() -> Segment
     ensures { result ≡ no_segment }
 {
-    Segment {
-        start: MemAddress(0),
-        length: 0,
-        device: 0,
-        retries: 0,
-        sub_area: 0,
-        sector: 0,
-    }
+    Segment::default()
 }
 
 // The record that a lookup found, which is among the first `count`; 0 where it found none.

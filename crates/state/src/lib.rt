@@ -2,13 +2,13 @@
 #![tactic(auto)]
 
 ghost use Rattle.std.specs.Prelude.{◌≡◌};
-ghost use Rattle.state.specs.Fresh.{no_job, fresh_area, free_device};
+ghost use Rattle.state.specs.Fresh.{fresh_area, free_device};
 
 use memory::{JobResult, JobStatus, JobType, LogicalAddress, MemAddress, Task};
 use plan::records::Granularity;
 
 // An area's latest job. Its data stay after its end until the next job is accepted.
-#[derive(Clone, Copy)]
+#[derive(Clone, Copy, Default)]
 pub struct Job {
     pub task: Task,
     pub processed: u32,
@@ -19,7 +19,7 @@ pub struct Job {
 
 // The rounds that closed while the latest job was pending, by what it waited for.
 #[repr(C)]
-#[derive(Clone, Copy)]
+#[derive(Clone, Copy, Default)]
 pub struct Waits {
     pub own: u32,
     pub above: u32,
@@ -27,15 +27,16 @@ pub struct Waits {
     pub locked: u32,
 }
 
-#[derive(Clone, Copy)]
+#[derive(Clone, Copy, Default)]
 pub struct Area {
     pub job: Job,
     pub waits: Waits,
 }
 
 // What a device does. What it runs for an area is that area's next segment.
-#[derive(Clone, Copy)]
+#[derive(Clone, Copy, Default)]
 pub enum DeviceState {
+    #[default]
     Free,
     Runs { area: u8, polls: u16 },
     LockedFor(u8),
@@ -48,14 +49,14 @@ pub struct SuspendedErase {
     pub polls: u16,
 }
 
-#[derive(Clone, Copy)]
+#[derive(Clone, Copy, Default)]
 pub struct Device {
     pub state: DeviceState,
     pub suspended: Option<SuspendedErase>,
 }
 
 // The running request of a job; all zeros where none runs. The hardware id is the device number.
-#[derive(Clone, Copy)]
+#[derive(Clone, Copy, Default)]
 pub struct RequestInfo {
     pub device: u8,
     pub start: MemAddress,
@@ -64,7 +65,7 @@ pub struct RequestInfo {
 }
 
 // 000: MemAcc_JobInfoType, with the waits.
-#[derive(Clone, Copy)]
+#[derive(Clone, Copy, Default)]
 pub struct JobInfo {
     pub task: Task,
     pub result: JobResult,
@@ -74,7 +75,7 @@ pub struct JobInfo {
 }
 
 // 000: MemAcc_MemoryInfoType, of the sub-area that holds an address.
-#[derive(Clone, Copy)]
+#[derive(Clone, Copy, Default)]
 pub struct MemoryInfo {
     pub logical_start: LogicalAddress,
     pub physical_start: MemAddress,
@@ -86,28 +87,10 @@ pub struct MemoryInfo {
 }
 
 // Document 02, 05: the wear of the sub-area that holds an address: its sum of sectors erased, and the charge in millionths.
-#[derive(Clone, Copy)]
+#[derive(Clone, Copy, Default)]
 pub struct WearInfo {
     pub sum: u32,
     pub charge: u64,
-}
-
-impl Job {
-    fn none() -> Job
-        ensures { result ≡ no_job }
-    {
-        Job {
-            task: Task {
-                kind: JobType::NoJob,
-                address: LogicalAddress(0),
-                length: 0,
-            },
-            processed: 0,
-            retries_left: 0,
-            status: JobStatus::Idle,
-            result: JobResult::OK,
-        }
-    }
 }
 
 impl Area {
@@ -115,16 +98,7 @@ impl Area {
     pub fn fresh() -> Area
         ensures { result ≡ fresh_area }
     {
-        let job = Job::none();
-        Area {
-            job,
-            waits: Waits {
-                own: 0,
-                above: 0,
-                below: 0,
-                locked: 0,
-            },
-        }
+        Area::default()
     }
 }
 
@@ -132,9 +106,6 @@ impl Device {
     pub fn free() -> Device
         ensures { result ≡ free_device }
     {
-        Device {
-            state: DeviceState::Free,
-            suspended: None,
-        }
+        Device::default()
     }
 }
