@@ -4,7 +4,8 @@
 ghost use Rattle.std.specs.Prelude.{true, false, [], ◌∷◌, ◌≡◌, ◌+◌, ◌≤◌, ◌<◌, min, length, MatchOption};
 ghost use Rattle.figures.specs.Figures.{Audited};
 ghost use Rattle.rows.specs.Rows.{rows_text};
-ghost use Rattle.rows.specs.Written.{Written};
+ghost use Rattle.rows.specs.Written.{PrintsPart};
+ghost use Rattle.texts.specs.Pages.{room};
 ghost use Rattle.segment.specs.Segments.{is_lock};
 ghost use Rattle.job_rows.specs.JobRows.{head_form, head_row, refused_row, image_form, image_row, window_form, window_row, stretch_row, segment_row, above_row, locked_row, rounds_row, too_large, rounds_most};
 ghost use Rattle.job_rows.specs.Cursors.{rows_left, foot_index, AtSegment, AtRow, is_end, Fits};
@@ -18,6 +19,7 @@ use memory::{JobType, Task};
 use plan::records::Plan;
 use rows::{Form, JobForm, ReachForm, Row, WaitForm, print_row};
 use segment::{Segment, is_lock, segment_at};
+use texts::page::Page;
 
 // What is known of a job: the number that a fresh manager answers, its bounds, and of the jobs of the list what they add to its above and whether one locks a
 // device of its area.
@@ -436,38 +438,29 @@ fn job_step(plan: Plan, area: usize, task: Task, facts: JobFacts, cursor: Cursor
     }
 }
 
-// Where the rows are when the buffer is full, or at the end, and where the text ends.
-#[derive(Clone, Copy)]
-pub struct Printed {
-    pub cursor: Cursor,
-    pub end: usize,
-}
-
-// The rows of a job from a cursor on, as long as a row has room.
+// The rows of a job from a cursor on, as long as a row has room; the answer is where the next one is, or the end.
 pub fn print_job(
+    page: &mut Page,
     plan: Plan,
     area: usize,
     task: Task,
     facts: JobFacts,
     cursor: Cursor,
-    out: &mut [u8],
-    at: usize,
-) -> Printed
-    requires { Fits plan area task facts cursor × (at ≤ length out.old) }
-    ensures written { Written out.old out.new at result.end (rows_text (rows_left plan area task facts cursor)) (rows_text (rows_left plan area task facts result.cursor)) }
-    ensures fits { Fits plan area task facts result.cursor × (result.end ≤ length out.new) }
-    ensures out_len_bound { is_end result.cursor ≡ false → length out.new < result.end + 3000 }
+) -> Cursor
+    requires { Fits plan area task facts cursor }
+    ensures printed { PrintsPart page.old page.new (rows_text (rows_left plan area task facts cursor)) (rows_text (rows_left plan area task facts result)) }
+    ensures fits { Fits plan area task facts result }
+    ensures full { is_end result ≡ false → room page.new < 3000 }
 {
     let mut next = cursor;
-    let mut end = at;
-    while end + 3000 <= out.len() {
+    while 3000 <= page.room() {
         match job_step(plan, area, task, facts, next) {
-            None => return Printed { cursor: next, end },
+            None => return next,
             Some(step) => {
-                end = print_row(out, end, step.row);
+                print_row(page, step.row);
                 next = step.cursor;
             }
         }
     }
-    Printed { cursor: next, end }
+    next
 }

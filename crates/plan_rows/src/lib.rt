@@ -1,11 +1,11 @@
 // The rows of a plan: what the auditor's program says of it.
 #![tactic(auto)]
 
-ghost use Rattle.std.specs.Prelude.{◌≡◌, ◌+◌, ◌-◌, ◌≤◌, ◌<◌, length};
+ghost use Rattle.std.specs.Prelude.{◌≡◌, ◌-◌, ◌≤◌, ◌<◌};
 ghost use Rattle.plan.specs.WellFormed.{WellFormed};
 ghost use Rattle.rows.specs.Rows.{rows_text};
-ghost use Rattle.rows.specs.Written.{Written};
-ghost use Rattle.texts.specs.Appended.{Appended};
+ghost use Rattle.rows.specs.Written.{PrintsPart};
+ghost use Rattle.texts.specs.Pages.{Prints, room};
 ghost use Rattle.rules.specs.statements.JobSets.{is_on};
 ghost use Rattle.plan_rows.specs.PlanRows.{device_form, device_row, rank_of, area_form, area_row, on_row, stretch_row, pair_row, row_if_any, area_place, pair_place, rows_at, plan_rows_from};
 
@@ -13,13 +13,7 @@ use figures::{factor_of, record_of, span_most};
 use plan::records::Plan;
 use plan_questions::area_size;
 use rows::{Form, PlanForm, Row, print_row};
-
-// How far the plan's rows are printed: the next place, and where the text ends.
-#[derive(Clone, Copy)]
-pub struct Printed {
-    pub next: usize,
-    pub end: usize,
-}
+use texts::page::Page;
 
 // Has the area a sub-area on the device?
 pub fn is_on(plan: Plan, area: usize, device: usize) -> bool
@@ -213,29 +207,28 @@ fn place_at(plan: Plan, k: usize) -> Option<Row>
 }
 
 // Prints the row of place k, if it has one.
-fn print_place(plan: Plan, k: usize, out: &mut [u8], at: usize) -> usize
-    requires { WellFormed plan × (k < 300) × (at + 3000 ≤ length out.old) }
-    ensures { (Appended out.old out.new at result (rows_text (rows_at plan k))) × (result ≤ length out.new) }
+fn print_place(page: &mut Page, plan: Plan, k: usize)
+    requires { WellFormed plan × (k < 300) × (3000 ≤ room page.old) }
+    ensures { Prints 3000 page.old page.new (rows_text (rows_at plan k)) }
 {
     match place_at(plan, k) {
-        Some(row) => print_row(out, at, row),
-        None => at,
+        Some(row) => print_row(page, row),
+        None => {}
     }
 }
 
-// Prints the rows from place k on, behind the first bytes of the buffer, until all are printed or the next one may not fit.
-pub fn print_plan(plan: Plan, k: usize, out: &mut [u8], at: usize) -> Printed
-    requires { WellFormed plan × (k ≤ 300) × (at ≤ length out.old) }
-    ensures written { Written out.old out.new at result.end (rows_text (plan_rows_from plan (300 - k) k)) (rows_text (plan_rows_from plan (300 - result.next) result.next)) }
-    ensures k_le_next { (k ≤ result.next) × (result.next ≤ 300) × (result.end ≤ length out.new) }
-    ensures out_len_bound { result.next < 300 → length out.new < result.end + 3000 }
+// Prints the rows from place k on, until all are printed or the next one may not fit; the answer is the next place.
+pub fn print_plan(page: &mut Page, plan: Plan, k: usize) -> usize
+    requires { WellFormed plan × (k ≤ 300) }
+    ensures printed { PrintsPart page.old page.new (rows_text (plan_rows_from plan (300 - k) k)) (rows_text (plan_rows_from plan (300 - result) result)) }
+    ensures next_bounds { (k ≤ result) × (result ≤ 300) }
+    ensures full { result < 300 → room page.new < 3000 }
 {
-    let mut end = at;
     for next in k..300 {
-        if out.len() - end < 3000 {
-            return Printed { next, end };
+        if page.room() < 3000 {
+            return next;
         }
-        end = print_place(plan, next, out, end);
+        print_place(page, plan, next);
     }
-    Printed { next: 300, end }
+    300
 }

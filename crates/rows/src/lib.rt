@@ -1,12 +1,12 @@
-// The rows that the auditor's program prints: a form and its numbers, written behind what stands in a lent buffer.
+// The rows that the auditor's program prints: a form and its numbers, printed on a page.
 #![tactic(auto)]
 
-ghost use Rattle.std.specs.Prelude.{◌≡◌, ◌+◌, ◌*◌, ◌≤◌, ◌<◌, length, get_or};
-ghost use Rattle.texts.specs.Appended.{Appended};
+ghost use Rattle.std.specs.Prelude.{◌≡◌, ◌*◌, ◌≤◌, length, get_or};
+ghost use Rattle.texts.specs.Pages.{Prints, room};
 ghost use Rattle.rows.specs.Forms.{filled};
 ghost use Rattle.rows.specs.Rows.{plan_form, job_form, reach_form, wait_form, form_of, row_text};
 
-use texts::{push, push_number};
+use texts::page::Page;
 
 // Rows of the plan.
 #[derive(Clone, Copy)]
@@ -84,21 +84,19 @@ fn number_at(numbers: &[u64], k: usize) -> u64
 }
 
 // A form with its numbers: each of its bytes takes at most 20 bytes.
-fn push_filled(out: &mut [u8], at: usize, form: &[u8], numbers: &[u64]) -> usize
-    requires { at + 20 * length form.now ≤ length out.old }
-    ensures { (Appended out.old out.new at result (filled form.now numbers.now)) × (result ≤ at + 20 * length form.now) }
+fn push_filled(page: &mut Page, form: &[u8], numbers: &[u64])
+    requires { 20 * length form.now ≤ room page.old }
+    ensures { Prints (20 * length form.now) page.old page.new (filled form.now numbers.now) }
 {
-    let mut end = at;
     let mut k = 0;
     for byte in form {
         if *byte == b'#' {
-            end = push_number(out, end, number_at(numbers, k));
+            page.number(number_at(numbers, k));
             k += 1;
         } else {
-            end = push(out, end, *byte);
+            page.push(*byte);
         }
     }
-    end
 }
 
 impl PlanForm {
@@ -199,9 +197,9 @@ impl Form {
 
 // A row is at most 3,000 bytes long.
 #[tactic(auto, unfolding(crate::specs::Rows::row_text))]
-pub fn print_row(out: &mut [u8], at: usize, row: Row) -> usize
-    requires { at + 3000 ≤ length out.old }
-    ensures { (Appended out.old out.new at result (row_text row)) × (result ≤ at + 3000) }
+pub fn print_row(page: &mut Page, row: Row)
+    requires { 3000 ≤ room page.old }
+    ensures { Prints 3000 page.old page.new (row_text row) }
 {
-    push_filled(out, at, row.form.text(), &row.numbers)
+    push_filled(page, row.form.text(), &row.numbers);
 }

@@ -6,6 +6,7 @@ ghost use Rattle.session.specs.laws.FoldLaws.{session_of, is_line};
 use crate::play::play_line;
 use lines::{line_of, part_end};
 use manager::Manager;
+use texts::page::Page;
 
 // The next manager, how much of the input was used, and how many bytes were written.
 #[derive(Clone, Copy)]
@@ -37,19 +38,19 @@ pub fn play_lines(
 {
     let mut manager = manager;
     let mut at = 0;
-    let mut end = 0;
-    while at <= input.len() && end + 338 <= out.len() {
+    let mut page = Page::new(out);
+    while at <= input.len() && 338 <= page.room() {
         let to = part_end(input, b'\n', at);
         if !is_line(at, to, input.len(), ends) {
             break;
         }
         let line = line_of(&input[at..to], manager.plan.device_count);
-        end = play_line(&mut manager, line, image, store, out, end);
+        play_line(&mut manager, line, image, store, &mut page);
         at = to + 1;
     }
     Progress {
         manager,
         used: at.min(input.len()),
-        written: end,
+        written: page.written(),
     }
 }

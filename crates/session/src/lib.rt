@@ -16,7 +16,7 @@ use memory::answer_number;
 use crate::fold::{Progress, play_lines};
 use manager::Manager;
 use plan::checks::device_sum;
-use texts::{number_line, question_line};
+use texts::page::Page;
 
 // The manager of a plan, and the length of its image.
 #[derive(Clone, Copy)]
@@ -47,19 +47,29 @@ pub fn open(plan: &[u8], out: &mut [u8]) -> Result<Opened, Closed>
             written: 0,
         });
     }
+    let mut page = Page::new(out);
     if 4096 < plan.len() {
-        let written = question_line(out, 0);
-        return Err(Closed { manager, written });
+        page.question_line();
+        return Err(Closed {
+            manager,
+            written: page.written(),
+        });
     }
     let number = answer_number(loaded.answer);
     if 0 < number {
-        let written = number_line(out, 0, number as u64);
-        return Err(Closed { manager, written });
+        page.number_line(number as u64);
+        return Err(Closed {
+            manager,
+            written: page.written(),
+        });
     }
     let sum = device_sum(manager.plan.devices, manager.plan.device_count);
     if 65536 < sum {
-        let written = question_line(out, 0);
-        return Err(Closed { manager, written });
+        page.question_line();
+        return Err(Closed {
+            manager,
+            written: page.written(),
+        });
     }
     Ok(Opened {
         manager,

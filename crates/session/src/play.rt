@@ -1,12 +1,12 @@
-// What a line's call changes of the manager, and its answer printed into a lent buffer, of which the bytes behind the answer are left open.
-ghost use Rattle.std.specs.Prelude.{◌≡◌, ℕ, ◌+◌, ◌≤◌, ◌<◌, List, length};
+// What a line's call changes of the manager, and its answer printed on a page.
+ghost use Rattle.std.specs.Prelude.{◌≡◌, ℕ, ◌≤◌, ◌<◌, List};
 ghost use Rattle.devices.specs.Arrays.{core_in};
 ghost use Rattle.effects.specs.Effects.{memory_of};
 ghost use Rattle.changes.specs.Accepted.{if_accepted};
 ghost use Rattle.manager.specs.Calls.{manager_of, changed, round_number_of, after_round, memory_after_round};
 ghost use Rattle.memory.specs.Numbers.{admission_number};
 ghost use Rattle.shown.specs.Shown.{devices_line};
-ghost use Rattle.texts.specs.Appended.{Appended};
+ghost use Rattle.texts.specs.Pages.{Prints, room};
 ghost use Rattle.texts.specs.Texts.{number_line};
 ghost use Rattle.session.specs.Play.{number_of_call, after_call, info_text, round_text};
 ghost use Rattle.session.specs.laws.PlayLaws.{job_of, plain_of, LineDone};
@@ -19,7 +19,7 @@ use memory::{Admission, DeviceAnswer, JobType, LogicalAddress, Task, answer_numb
 use plan::records::Plan;
 use shown::devices_line;
 use state::{Area, Device};
-use texts::{info_line, number_line, question_line};
+use texts::page::Page;
 use wear::add_worn;
 
 // A call by the function that carries it out: one for the five jobs and the lock request.
@@ -92,51 +92,49 @@ pub fn make(
     }
 }
 
-pub fn print_answer(out: &mut [u8], at: usize, answer: Admission) -> usize
-    requires { at + 338 ≤ length out.old }
-    ensures { (Appended out.old out.new at result (number_line (admission_number answer))) × (result ≤ at + 338) }
+pub fn print_answer(page: &mut Page, answer: Admission)
+    requires { 338 ≤ room page.old }
+    ensures { Prints 338 page.old page.new (number_line (admission_number answer)) }
 {
-    let number = answer_number(answer);
-    number_line(out, at, number as u64)
+    page.number_line(answer_number(answer) as u64);
 }
 
-pub fn print_info(out: &mut [u8], at: usize, asked: JobInfoAnswer) -> usize
-    requires { at + 338 ≤ length out.old }
-    ensures { (Appended out.old out.new at result (info_text (admission_number asked.answer) asked.info)) × (result ≤ at + 338) }
+pub fn print_info(page: &mut Page, asked: JobInfoAnswer)
+    requires { 338 ≤ room page.old }
+    ensures { Prints 338 page.old page.new (info_text (admission_number asked.answer) asked.info) }
 {
-    let answer = asked.answer;
-    let number = answer_number(answer);
+    let number = answer_number(asked.answer);
     if 0 < number {
-        return number_line(out, at, number as u64);
+        page.number_line(number as u64);
+        return;
     }
     let info = asked.info;
-    let result = info.result;
-    let waits = info.waits;
-    info_line(out, at, result, info.processed, waits)
+    page.info_line(info.result, info.processed, info.waits);
 }
 
 pub fn print_round(
-    out: &mut [u8],
-    at: usize,
+    page: &mut Page,
     answer: Admission,
     plan: Plan,
     areas: [Area; 8],
     devices: [Device; 4],
-) -> usize
-    requires at_in_bounds { at + 338 ≤ length out.old }
+)
+    requires room_left { 338 ≤ room page.old }
     requires sub_area_count_bound { admission_number answer ≡ 0 → (plan.sub_area_count ≤ 32) × (plan.device_count ≤ 4) }
-    ensures { (Appended out.old out.new at result (if_accepted (admission_number answer) (devices_line plan (core_in areas devices)) (number_line (admission_number answer)))) × (result ≤ at + 338) }
+    ensures { Prints 338 page.old page.new (if_accepted (admission_number answer) (devices_line plan (core_in areas devices)) (number_line (admission_number answer))) }
 {
     let number = answer_number(answer);
     if 0 < number {
-        return number_line(out, at, number as u64);
+        page.number_line(number as u64);
+        return;
     }
-    devices_line(out, at, plan, areas, devices)
+    devices_line(page, plan, areas, devices);
 }
 
-fn play_call(manager: &mut Manager, call: LineCall, out: &mut [u8], at: usize) -> usize
-    requires { at + 338 ≤ length out.old }
-    ensures { (manager.new ≡ after_call call manager.old) × (Appended out.old out.new at result (number_line (number_of_call call manager.old))) × (result ≤ at + 338) }
+fn play_call(manager: &mut Manager, call: LineCall, page: &mut Page)
+    requires { 338 ≤ room page.old }
+    ensures manager_value { manager.new ≡ after_call call manager.old }
+    ensures printed { Prints 338 page.old page.new (number_line (number_of_call call manager.old)) }
 {
     let Change {
         area_number,
@@ -155,7 +153,7 @@ fn play_call(manager: &mut Manager, call: LineCall, out: &mut [u8], at: usize) -
     manager.areas[area_number] = area;
     manager.devices[device_number] = device;
     manager.ages = ages;
-    print_answer(out, at, answer)
+    print_answer(page, answer);
 }
 
 fn play_round(
@@ -163,14 +161,13 @@ fn play_round(
     answers: [DeviceAnswer; 4],
     image: &mut [u8],
     store: &mut [u8],
-    out: &mut [u8],
-    at: usize,
-) -> usize
-    requires { at + 338 ≤ length out.old }
+    page: &mut Page,
+)
+    requires { 338 ≤ room page.old }
     ensures manager_value { manager.new ≡ after_round manager.old answers (memory_of image.old store.old) }
     ensures image_after { image.new ≡ (memory_after_round manager.old answers (memory_of image.old store.old)).image }
     ensures store_after { store.new ≡ (memory_after_round manager.old answers (memory_of image.old store.old)).store }
-    ensures appended { (Appended out.old out.new at result (round_text (round_number_of manager.old (memory_of image.old store.old)) (after_round manager.old answers (memory_of image.old store.old)))) × (result ≤ at + 338) }
+    ensures printed { Prints 338 page.old page.new (round_text (round_number_of manager.old (memory_of image.old store.old)) (after_round manager.old answers (memory_of image.old store.old))) }
 {
     let RoundChange {
         areas,
@@ -189,7 +186,7 @@ fn play_round(
     manager.areas = areas;
     manager.devices = devices;
     add_worn(&mut manager.wear, worn);
-    print_round(out, at, answer, manager.plan, areas, devices)
+    print_round(page, answer, manager.plan, areas, devices);
 }
 
 // What a line does, and its answer: that of a line that cannot be read is a question mark.
@@ -198,18 +195,17 @@ pub(crate) fn play_line(
     line: Option<Line>,
     image: &mut [u8],
     store: &mut [u8],
-    out: &mut [u8],
-    at: usize,
-) -> usize
-    requires { at + 338 ≤ length out.old }
-    ensures { LineDone line manager.old manager.new (memory_of image.old store.old) (memory_of image.new store.new) out.old out.new at result }
+    page: &mut Page,
+)
+    requires { 338 ≤ room page.old }
+    ensures { LineDone line manager.old manager.new (memory_of image.old store.old) (memory_of image.new store.new) page.old page.new }
 {
     match line {
-        None => question_line(out, at),
-        Some(Line::Call(call)) => play_call(manager, call, out, at),
+        None => page.question_line(),
+        Some(Line::Call(call)) => play_call(manager, call, page),
         Some(Line::Info(area)) => {
             let asked = info_of(manager.plan, manager.areas, manager.devices, area as usize);
-            print_info(out, at, asked)
+            print_info(page, asked)
         }
         Some(
             Line::Round {
@@ -220,7 +216,7 @@ pub(crate) fn play_line(
             },
         ) => {
             let answers = [first, second, third, fourth];
-            play_round(manager, answers, image, store, out, at)
+            play_round(manager, answers, image, store, page)
         }
     }
 }

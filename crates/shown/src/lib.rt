@@ -1,18 +1,18 @@
 // What a round shows of its devices (document 01, "A printed session").
 #![tactic(auto)]
 
-ghost use Rattle.std.specs.Prelude.{◌≡◌, ◌+◌, ◌≤◌, length};
+ghost use Rattle.std.specs.Prelude.{◌≡◌, ◌≤◌};
 ghost use Rattle.devices.specs.Arrays.{job_in, core_in};
 ghost use Rattle.plan.specs.Questions.{area_of};
 ghost use Rattle.rules.specs.Session.{shown_on, shown_to};
-ghost use Rattle.texts.specs.Appended.{Appended};
+ghost use Rattle.texts.specs.Pages.{Prints, room};
 ghost use Rattle.shown.specs.Shown.{shown_text, shown_texts, devices_line};
 
 use memory::LogicalAddress;
 use plan::records::{AreaRecord, Plan};
 use segment::segment_from;
 use state::{Area, Device, DeviceState, Job};
-use texts::{free_text, locked_text, push, request_text};
+use texts::page::Page;
 
 // The job of any area: one that a manager has not got has none.
 fn job_of(areas: [Area; 8], area: usize) -> Job
@@ -37,9 +37,9 @@ fn start_of(places: [AreaRecord; 8], area: usize) -> LogicalAddress
 }
 
 // The request of an area that runs: its due segment.
-fn area_request(out: &mut [u8], at: usize, plan: Plan, areas: [Area; 8], area: u8) -> usize
-    requires { (at + 84 ≤ length out.old) × (plan.sub_area_count ≤ 32) }
-    ensures { (Appended out.old out.new at result (shown_text (shown_on plan (job_in areas) (DeviceState.Runs area 0)))) × (result ≤ at + 84) }
+fn area_request(page: &mut Page, plan: Plan, areas: [Area; 8], area: u8)
+    requires { (84 ≤ room page.old) × (plan.sub_area_count ≤ 32) }
+    ensures { Prints 84 page.old page.new (shown_text (shown_on plan (job_in areas) (DeviceState.Runs area 0))) }
 {
     let job = job_of(areas, area as usize);
     let segment = segment_from(
@@ -49,57 +49,41 @@ fn area_request(out: &mut [u8], at: usize, plan: Plan, areas: [Area; 8], area: u
         job.task,
         job.processed,
     );
-    request_text(
-        out,
-        at,
+    page.request_text(
         area as u64,
         job.task.kind.number() as u64,
         segment.start.0,
         segment.length,
-    )
+    );
 }
 
-fn device_text(out: &mut [u8], at: usize, plan: Plan, areas: [Area; 8], state: DeviceState) -> usize
-    requires { (at + 84 ≤ length out.old) × (plan.sub_area_count ≤ 32) }
-    ensures { (Appended out.old out.new at result (shown_text (shown_on plan (job_in areas) state))) × (result ≤ at + 84) }
+fn device_text(page: &mut Page, plan: Plan, areas: [Area; 8], state: DeviceState)
+    requires { (84 ≤ room page.old) × (plan.sub_area_count ≤ 32) }
+    ensures { Prints 84 page.old page.new (shown_text (shown_on plan (job_in areas) state)) }
 {
     match state {
-        DeviceState::Free => free_text(out, at),
-        DeviceState::LockedFor(_) => locked_text(out, at),
-        DeviceState::Runs { area, polls: _ } => area_request(out, at, plan, areas, area),
+        DeviceState::Free => page.free_text(),
+        DeviceState::LockedFor(_) => page.locked_text(),
+        DeviceState::Runs { area, polls: _ } => area_request(page, plan, areas, area),
     }
 }
 
-fn device_texts(
-    out: &mut [u8],
-    at: usize,
-    plan: Plan,
-    areas: [Area; 8],
-    devices: [Device; 4],
-) -> usize
-    requires { (at + 336 ≤ length out.old) × (plan.sub_area_count ≤ 32) × (plan.device_count ≤ 4) }
-    ensures { (Appended out.old out.new at result (shown_texts (shown_to plan (core_in areas devices) plan.device_count))) × (result ≤ at + 336) }
+fn device_texts(page: &mut Page, plan: Plan, areas: [Area; 8], devices: [Device; 4])
+    requires { (336 ≤ room page.old) × (plan.sub_area_count ≤ 32) × (plan.device_count ≤ 4) }
+    ensures { Prints 336 page.old page.new (shown_texts (shown_to plan (core_in areas devices) plan.device_count)) }
 {
-    let mut end = at;
     for device in &devices[..plan.device_count] {
-        end = device_text(out, end, plan, areas, device.state);
+        device_text(page, plan, areas, device.state);
     }
-    end
 }
 
 // A line of at most 338 bytes, the longest that a session prints.
-#[tactic(auto, using(texts::specs::laws::AppendLaws::append_more), unfolding(crate::specs::Shown::round_line))]
-pub fn devices_line(
-    out: &mut [u8],
-    at: usize,
-    plan: Plan,
-    areas: [Area; 8],
-    devices: [Device; 4],
-) -> usize
-    requires { (at + 338 ≤ length out.old) × (plan.sub_area_count ≤ 32) × (plan.device_count ≤ 4) }
-    ensures { (Appended out.old out.new at result (devices_line plan (core_in areas devices))) × (result ≤ at + 338) }
+#[tactic(auto, unfolding(crate::specs::Shown::round_line))]
+pub fn devices_line(page: &mut Page, plan: Plan, areas: [Area; 8], devices: [Device; 4])
+    requires { (338 ≤ room page.old) × (plan.sub_area_count ≤ 32) × (plan.device_count ≤ 4) }
+    ensures { Prints 338 page.old page.new (devices_line plan (core_in areas devices)) }
 {
-    let first = push(out, at, b'R');
-    let last = device_texts(out, first, plan, areas, devices);
-    push(out, last, b'\n')
+    page.push(b'R');
+    device_texts(page, plan, areas, devices);
+    page.push(b'\n');
 }

@@ -1,4 +1,5 @@
 pub mod Appended
+pub mod Pages
 pub mod Texts
 pub mod runs
 pub mod laws

@@ -1,3 +1,4 @@
 pub mod TextLaws
 pub mod AppendLaws
+pub mod PageLaws
 pub mod DecimalLaws

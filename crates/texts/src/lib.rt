@@ -1,117 +1,96 @@
-// What a session prints (document 01, "A printed session"), written behind what stands in a lent buffer.
+// What a session prints (document 01, "A printed session"), written behind what stands on a page.
 #![tactic(auto)]
 
-ghost use Rattle.std.specs.Prelude.{◌≡◌, [], ◌∷◌, ◌+◌, ◌≤◌, ◌<◌, length};
-ghost use Rattle.texts.specs.Appended.{Appended};
+ghost use Rattle.std.specs.Prelude.{[], ◌∷◌, ◌≤◌};
+ghost use Rattle.texts.specs.Pages.{Prints, room};
 ghost use Rattle.texts.specs.Texts.{behind, decimal, number_line, question_line, info_line, free_text, locked_text, request_text};
 
+pub mod page;
+
+use crate::page::Page;
 use itoa::Buffer;
 use memory::JobResult;
 use state::Waits;
 
-// A text behind the first `at` bytes; the answer is where it ends.
-pub fn push_text(out: &mut [u8], at: usize, text: &[u8]) -> usize
-    requires { at + length text.now ≤ length out.old }
-    ensures { (Appended out.old out.new at result text.now) × (result ≡ at + length text.now) }
-{
-    let end = at + text.len();
-    out[at..end].copy_from_slice(text);
-    end
-}
+impl<'a> Page<'a> {
+    // A number takes at most 20 bytes.
+    pub fn number(&mut self, n: u64)
+        requires { 20 ≤ room self.old }
+        ensures { Prints 20 self.old self.new (decimal n) }
+    {
+        self.push_all(Buffer::new().format(n).as_bytes());
+    }
 
-// One byte.
-pub fn push(out: &mut [u8], at: usize, byte: u8) -> usize
-    requires { at < length out.old }
-    ensures { (Appended out.old out.new at result (byte ∷ [])) × (result ≡ at + 1) }
-{
-    out[at] = byte;
-    at + 1
-}
+    // A number behind a character.
+    fn number_behind(&mut self, character: u8, n: u64)
+        requires { 21 ≤ room self.old }
+        ensures { Prints 21 self.old self.new (character ∷ decimal n) }
+    {
+        self.push(character);
+        self.number(n);
+    }
 
-// A number takes at most 20 bytes.
-pub fn push_number(out: &mut [u8], at: usize, n: u64) -> usize
-    requires { at + 20 ≤ length out.old }
-    ensures { (Appended out.old out.new at result (decimal n)) × (result ≤ at + 20) }
-{
-    push_text(out, at, Buffer::new().format(n).as_bytes())
-}
+    #[tactic(auto, unfolding(crate::specs::Texts::number_line))]
+    pub fn number_line(&mut self, n: u64)
+        requires { 21 ≤ room self.old }
+        ensures { Prints 21 self.old self.new (number_line n) }
+    {
+        self.number(n);
+        self.push(b'\n');
+    }
 
-// A number behind a character.
-fn push_behind(out: &mut [u8], at: usize, character: u8, n: u64) -> usize
-    requires { at + 21 ≤ length out.old }
-    ensures { (Appended out.old out.new at result (character ∷ decimal n)) × (result ≤ at + 21) }
-{
-    let end = push(out, at, character);
-    push_number(out, end, n)
-}
+    pub fn question_line(&mut self)
+        requires { 2 ≤ room self.old }
+        ensures { Prints 2 self.old self.new question_line }
+    {
+        self.push_all(b"?\n");
+    }
 
-#[tactic(auto, using(crate::specs::laws::AppendLaws::append_more), unfolding(crate::specs::Texts::number_line))]
-pub fn number_line(out: &mut [u8], at: usize, n: u64) -> usize
-    requires { at + 21 ≤ length out.old }
-    ensures { (Appended out.old out.new at result (number_line n)) × (result ≤ at + 21) }
-{
-    let end = push_number(out, at, n);
-    push(out, end, b'\n')
-}
+    #[tactic(auto, unfolding(crate::specs::Texts::behind))]
+    fn waits(&mut self, waits: Waits)
+        requires { 84 ≤ room self.old }
+        ensures { Prints 84 self.old self.new (behind 32 (waits.own ∷ waits.above ∷ waits.below ∷ waits.locked ∷ [])) }
+    {
+        self.number_behind(b' ', waits.own as u64);
+        self.number_behind(b' ', waits.above as u64);
+        self.number_behind(b' ', waits.below as u64);
+        self.number_behind(b' ', waits.locked as u64);
+    }
 
-pub fn question_line(out: &mut [u8], at: usize) -> usize
-    requires { at + 2 ≤ length out.old }
-    ensures { (Appended out.old out.new at result question_line) × (result ≤ at + 2) }
-{
-    push_text(out, at, b"?\n")
-}
+    #[tactic(auto, unfolding(crate::specs::Texts::info_line))]
+    pub fn info_line(&mut self, res: JobResult, processed: u32, waits: Waits)
+        requires { 126 ≤ room self.old }
+        ensures { Prints 126 self.old self.new (info_line res.0 processed waits.own waits.above waits.below waits.locked) }
+    {
+        self.number(res.0 as u64);
+        self.number_behind(b' ', processed as u64);
+        self.waits(waits);
+        self.push(b'\n');
+    }
 
-#[tactic(auto, using(crate::specs::laws::AppendLaws::append_more), unfolding(crate::specs::Texts::behind))]
-fn push_waits(out: &mut [u8], at: usize, waits: Waits) -> usize
-    requires { at + 84 ≤ length out.old }
-    ensures { (Appended out.old out.new at result (behind 32 (waits.own ∷ waits.above ∷ waits.below ∷ waits.locked ∷ []))) × (result ≤ at + 84) }
-{
-    let own = push_behind(out, at, b' ', waits.own as u64);
-    let above = push_behind(out, own, b' ', waits.above as u64);
-    let below = push_behind(out, above, b' ', waits.below as u64);
-    push_behind(out, below, b' ', waits.locked as u64)
-}
+    // What a device shows in the line of a round.
+    pub fn free_text(&mut self)
+        requires { 2 ≤ room self.old }
+        ensures { Prints 2 self.old self.new free_text }
+    {
+        self.push_all(b" -");
+    }
 
-#[tactic(auto, using(crate::specs::laws::AppendLaws::append_more), unfolding(crate::specs::Texts::info_line))]
-pub fn info_line(out: &mut [u8], at: usize, res: JobResult, processed: u32, waits: Waits) -> usize
-    requires { at + 126 ≤ length out.old }
-    ensures { (Appended out.old out.new at result (info_line res.0 processed waits.own waits.above waits.below waits.locked)) × (result ≤ at + 126) }
-{
-    let first = push_number(out, at, res.0 as u64);
-    let second = push_behind(out, first, b' ', processed as u64);
-    let counts = push_waits(out, second, waits);
-    push(out, counts, b'\n')
-}
+    pub fn locked_text(&mut self)
+        requires { 2 ≤ room self.old }
+        ensures { Prints 2 self.old self.new locked_text }
+    {
+        self.push_all(b" L");
+    }
 
-// What a device shows in the line of a round.
-pub fn free_text(out: &mut [u8], at: usize) -> usize
-    requires { at + 2 ≤ length out.old }
-    ensures { (Appended out.old out.new at result free_text) × (result ≤ at + 2) }
-{
-    push_text(out, at, b" -")
-}
-
-pub fn locked_text(out: &mut [u8], at: usize) -> usize
-    requires { at + 2 ≤ length out.old }
-    ensures { (Appended out.old out.new at result locked_text) × (result ≤ at + 2) }
-{
-    push_text(out, at, b" L")
-}
-
-#[tactic(auto, using(crate::specs::laws::AppendLaws::append_more), unfolding(crate::specs::Texts::request_text))]
-pub fn request_text(
-    out: &mut [u8],
-    at: usize,
-    area: u64,
-    kind: u64,
-    physical: u64,
-    count: u64,
-) -> usize
-    requires { at + 84 ≤ length out.old }
-    ensures { (Appended out.old out.new at result (request_text area kind physical count)) × (result ≤ at + 84) }
-{
-    let first = push_behind(out, at, b' ', area);
-    let second = push_behind(out, first, b':', kind);
-    let third = push_behind(out, second, b':', physical);
-    push_behind(out, third, b':', count)
+    #[tactic(auto, unfolding(crate::specs::Texts::request_text))]
+    pub fn request_text(&mut self, area: u64, kind: u64, physical: u64, count: u64)
+        requires { 84 ≤ room self.old }
+        ensures { Prints 84 self.old self.new (request_text area kind physical count) }
+    {
+        self.number_behind(b' ', area);
+        self.number_behind(b':', kind);
+        self.number_behind(b':', physical);
+        self.number_behind(b':', count);
+    }
 }

@@ -8,7 +8,6 @@ use Rattle.job_rows.specs.Cursors.{is_end}
 use Rattle.job_rows.specs.declared.Cursor.{Cursor}
 use Rattle.job_rows.specs.declared.Cursor.TheVariants.{Head, End}
 use Rattle.job_rows.specs.declared.JobFacts.{JobFacts}
-use Rattle.job_rows.specs.declared.Printed.{Printed}
 use Rattle.job_rows.specs.laws.JobRowLaws.{none_left}
 use Rattle.manager.specs.Calls.{job_number_of}
 use Rattle.manager.specs.declared.Manager.{Manager}
@@ -16,12 +15,13 @@ use Rattle.memory.specs.declared.Task.{Task}
 use Rattle.plan.specs.declared.records.Plan.{Plan}
 use Rattle.plan_rows.specs.PlanRows.{plan_rows_from, plan_rows}
 use Rattle.rows.specs.Rows.{row_text, rows_text}
-use Rattle.rows.specs.Written.{Written}
+use Rattle.rows.specs.Written.{Written, PrintsPart}
 use Rattle.rows.specs.declared.Row.{Row}
-use Rattle.rows.specs.laws.WrittenLaws.{written_none, written_more, written_on}
+use Rattle.rows.specs.laws.WrittenLaws.{part_none, part_more, part_on}
 use Rattle.rules.specs.statements.JobSets.{AreaJob}
 use Rattle.session.specs.AllLines.{lines_of}
-use Rattle.texts.specs.Appended.{Appended}
+use Rattle.texts.specs.Pages.{Prints, room}
+use Rattle.texts.specs.declared.page.Page.{Page}
 use Rattle.audits.specs.Audits.{JobLine, jobs_in, refused_facts, facts_of, unreadable_row, lines_from, rows_of_job, rows_of_lines, audit_rows, line_left, audit_left}
 use Rattle.audits.specs.Filled.{first_place, is_finished, LineFits, PlaceFits, FilledTo}
 use Rattle.audits.specs.declared.JobAt.{JobAt}
@@ -35,12 +35,11 @@ abbrev pub line_facts : Manager → List AreaJob → JobLine → JobFacts
 line_facts m js None = refused_facts 0
 line_facts m js (Some j) = facts_of m js j.area j.task
 
--- the rows of a line printed from a cursor on: it stops early only where the next row may not fit
-pub record LineDone (p : Plan) (j : JobLine) (f : JobFacts) (c : Cursor) (before after : List ℕ) (at : ℕ) (r : Printed) : Type 0 where
-  pub written : Written before after at r.end (rows_text (line_left p j f c)) (rows_text (line_left p j f r.cursor))
-  pub fits : LineFits p j f r.cursor
-  pub few : r.end ≤ length after
-  pub full : is_end r.cursor ≡ false → length after < r.end + 3000
+-- the rows of a line printed from a cursor on, up to the next one: it stops early only where that may not fit
+pub record LineDone (p : Plan) (j : JobLine) (f : JobFacts) (c : Cursor) (before after : Page) (left : Cursor) : Type 0 where
+  pub printed : PrintsPart before after (rows_text (line_left p j f c)) (rows_text (line_left p j f left))
+  pub fits : LineFits p j f left
+  pub full : is_end left ≡ false → room after < 3000
 
 -- at the start all of the audit is left
 pub all_left : (m : Manager) (input : List ℕ) → audit_left m input first_place ≡ audit_rows m (lines_of true input)
@@ -63,6 +62,14 @@ written_before {a} {b} {i} {j} whole rest more w =
       ends = let e = w.ends in simp length-append (omega (arith, e));
       long = w.long;
     })
+
+pub part_before : {x y : Page} (whole rest more : List Row) →
+    PrintsPart x y (rows_text whole) (rows_text rest) → PrintsPart x y (rows_text (whole ++ more)) (rows_text (rest ++ more))
+part_before whole rest more w = record { same_buffer = w.same_buffer; written = written_before whole rest more w.written }
+
+-- equal rows
+pub part_same : {x y : Page} {a b c d : List Row} → a ≡ c → b ≡ d → PrintsPart x y (rows_text a) (rows_text b) → PrintsPart x y (rows_text c) (rows_text d)
+part_same e f w = rw (e, f) at w
 
 -- the lines behind byte `at`, where all lines are the list
 abbrev pub behind : Manager → List ℕ → ℕ → List Row
@@ -109,105 +116,86 @@ line_begins m l js None f q = refl
 line_begins m l js (Some j) f q = λ _ e. audited m l j.area j.task (facts_number m js j.area j.task (sym (ap (λ x. x.number) q) ∙ e))
 
 -- a line that is no job, printed
-module _ (p : Plan) (f : JobFacts) (c : Cursor) where
-  pub unreadable_over : (l : List ℕ) (at : ℕ) → at ≤ length l → is_end c ≡ true → LineDone p None f c l l at (record { cursor = c; end = at })
-  unreadable_over l at h e = record { written = written_none _ _ _; fits = refl; few = h; full = λ g. absurd (true≢false (sym e ∙ g)) }
+module _ (p : Plan) (f : JobFacts) (c : Cursor) {x : Page} where
+  pub unreadable_over : is_end c ≡ true → LineDone p None f c x x c
+  unreadable_over e = record { printed = part_none x _; fits = refl; full = λ g. absurd (true≢false (sym e ∙ g)) }
 
-  pub unreadable_full : (l : List ℕ) (at : ℕ) → at ≤ length l → length l - at < 3000 → LineDone p None f c l l at (record { cursor = c; end = at })
-  unreadable_full l at h k = record { written = written_none _ _ _; fits = refl; few = h; full = λ _. omega arith }
+  pub unreadable_full : room x < 3000 → LineDone p None f c x x c
+  unreadable_full h = record { printed = part_none x _; fits = refl; full = λ _. h }
 
-  pub unreadable_printed : (l k : List ℕ) (at end : ℕ) → is_end c ≡ false → Appended l k at end (row_text unreadable_row) → end ≤ length k →
-      LineDone p None f c l k at (record { cursor = End; end = end })
+  pub unreadable_printed : {y : Page} {most : ℕ} → is_end c ≡ false → Prints most x y (row_text unreadable_row) → LineDone p None f c x y End
   unfolding rows_text
-  unreadable_printed l k at end e q h =
+  unreadable_printed e q =
       record {
-        written = written_more (row_text unreadable_row) (rw e refl) (written_none l at (rows_text (line_left p None f c))) q;
+        printed = part_more (row_text unreadable_row) (rw e refl) (part_none x (rows_text (line_left p None f c))) q;
         fits = refl;
-        few = h;
         full = λ g. absurd (true≢false g);
       }
 
--- the lines being printed, from place s on, as far as place r
-pub record Filling (m : Manager) (input : List ℕ) (s : Place) (before after : List ℕ) (at : ℕ) (r : Place) (end : ℕ) : Type 0 where
-  pub rows : r.rows ≡ s.rows
-  pub long : length after ≡ length before
-  pub few : end ≤ length before
+-- the audit of the input printed from place s on, up to place r: it stops before the end only where the next row may not fit
+pub record FilledOn (m : Manager) (input : List ℕ) (s : Place) (before after : Page) (r : Place) : Type 0 where
+  pub printed : PrintsPart before after (rows_text (audit_left m input s)) (rows_text (audit_left m input r))
+  pub fits : PlaceFits m r
+  pub full : (audit_left m input r ≡ [] → ⊥) → room after < 3000
+
+-- the lines being printed, from place s on, up to place r, whose line is in work
+pub record Filling (m : Manager) (input : List ℕ) (s : Place) (before after : Page) (r : Place) : Type 0 where
+  pub rows : r.rows ≡ 300
   pub line : LineFits m.plan r.job r.facts r.cursor
-  pub full : is_end r.cursor ≡ false → length before < end + 3000
-  pub written : Written before after at end (rows_text (audit_left m input s)) (rows_text (line_left m.plan r.job r.facts r.cursor ++ behind m input r.next))
+  pub full : is_end r.cursor ≡ false → room after < 3000
+  pub printed : PrintsPart before after (rows_text (audit_left m input s)) (rows_text (audit_left m input r))
 
-module _ (m : Manager) (input : List ℕ) (s : Place) (e : s.rows ≡ 300) (before : List ℕ) (at : ℕ) where
+module _ (m : Manager) (input : List ℕ) (s : Place) {before : Page} where
   -- where nothing is printed yet
-  pub filling_first : LineFits m.plan s.job s.facts s.cursor → at ≤ length before → (is_end s.cursor ≡ false → length before < at + 3000) →
-      Filling m input s before before at s at
-  filling_first f h k = record { rows = refl; long = refl; few = h; line = f; full = k; written = rw (lines_left m input s e) (written_none _ _ _) }
+  pub filling_first : PlaceFits m s → s.rows ≡ 300 → (is_end s.cursor ≡ false → room before < 3000) → Filling m input s before before s
+  filling_first f e h = record { rows = e; line = f.line; full = h; printed = part_none before _ }
 
-  -- the next one
-  pub filling_next : (mid after : List ℕ) (r : Place) (end : ℕ) → Filling m input s before mid at r end → (n : JobAt) →
-      NextJob input r.next m.plan.device_count n → is_end r.cursor ≡ true → (g : JobFacts) →
-      g ≡ line_facts m (jobs_in m.plan.device_count (lines_of true input)) n.job → (q : Printed) →
-      LineDone m.plan n.job g Head mid after end q →
-      Filling m input s before after at (record { rows = r.rows; job = n.job; facts = g; cursor = q.cursor; next = n.next }) q.end
-  filling_next mid after r end k n h over g is q d =
-      let long = d.written.long ∙ k.long in
-      let more = written_before (line_left m.plan n.job g Head) (line_left m.plan n.job g q.cursor) (behind m input n.next) d.written in
-      record {
-        rows = k.rows;
-        long = long;
-        few = omega (arith, d.few);
-        line = d.fits;
-        full = λ u. omega (arith, d.full u);
-        written = written_on (subst (λ l. Written before mid at end (rows_text (audit_left m input s)) (rows_text l)) (next_left m input r.next n h r.job r.facts r.cursor over g is) k.written) more;
-      }
+  -- the next line
+  pub filling_next : {mid after : Page} (r : Place) → Filling m input s before mid r → (n : JobAt) → NextJob input r.next m.plan.device_count n → is_end r.cursor ≡ true →
+      (g : JobFacts) → g ≡ line_facts m (jobs_in m.plan.device_count (lines_of true input)) n.job → (c : Cursor) →
+      LineDone m.plan n.job g Head mid after c →
+      Filling m input s before after (record { rows = r.rows; job = n.job; facts = g; cursor = c; next = n.next })
+  filling_next r k n h over g q c d =
+      let there : Place = record { rows = r.rows; job = n.job; facts = g; cursor = c; next = n.next } in
+      let begins = lines_left m input r k.rows ∙ next_left m input r.next n h r.job r.facts r.cursor over g q in
+      let more = part_before (line_left m.plan n.job g Head) (line_left m.plan n.job g c) (behind m input n.next) d.printed in
+      record { rows = k.rows; line = d.fits; full = d.full; printed = part_on k.printed (part_same (sym begins) (sym (lines_left m input there k.rows)) more) }
 
-  -- the buffer is full, or the lines are at their end
-  pub filling_stops : (after : List ℕ) (r : Place) (end : ℕ) → Filling m input s before after at r end →
-      (is_end r.cursor ≡ false) ⊎ (length input ≤ r.next) → FilledTo m input s before after at (record { place = r; end = end })
-  filling_stops after r end k stops =
-      let all : r.rows ≡ 300 = k.rows ∙ e in
+  -- the page is full, or the lines are at their end
+  pub filling_stops : {after : Page} (r : Place) → Filling m input s before after r → (is_end r.cursor ≡ false) ⊎ (length input ≤ r.next) →
+      FilledOn m input s before after r
+  filling_stops r k stops =
       record {
-        written = rw (lines_left m input r all) k.written;
-        fits = record { rows = omega (arith, all); line = k.line };
-        few = omega (arith, k.few, k.long);
+        printed = k.printed;
+        fits = record { rows = let e = k.rows in omega arith; line = k.line };
         full = λ u.
             ⊎_elim
-            (λ g. omega (arith, k.full g, k.long))
-            (λ g. by_bool (is_end r.cursor) (λ over. absurd (u (all_printed m input r all over g))) (λ left. omega (arith, k.full left, k.long)))
+            (λ g. k.full g)
+            (λ g. by_bool (is_end r.cursor) (λ over. absurd (u (all_printed m input r k.rows over g))) (λ left. k.full left))
             stops;
       }
 
 -- the plan's rows, then the line in work, then the others
-module _ (m : Manager) (input : List ℕ) (s : Place) (f : PlaceFits m s) (before : List ℕ) where
-  abbrev lines : List Row
-  lines = line_left m.plan s.job s.facts s.cursor ++ behind m input s.next
+module _ (m : Manager) (input : List ℕ) (s : Place) (f : PlaceFits m s) {before mid : Page} (n : ℕ)
+    (w : PrintsPart before mid (rows_text (plan_rows_from m.plan (300 - s.rows) s.rows)) (rows_text (plan_rows_from m.plan (300 - n) n))) where
+  abbrev there : Cursor → Place
+  there c = record { rows = n; job = s.job; facts = s.facts; cursor = c; next = s.next }
 
-  plan_part : (mid : List ℕ) (n end : ℕ) →
-      Written before mid 0 end (rows_text (plan_rows_from m.plan (300 - s.rows) s.rows)) (rows_text (plan_rows_from m.plan (300 - n) n)) →
-      Written before mid 0 end (rows_text (audit_left m input s)) (rows_text (plan_rows_from m.plan (300 - n) n ++ lines))
-  plan_part mid n end w = written_before (plan_rows_from m.plan (300 - s.rows) s.rows) (plan_rows_from m.plan (300 - n) n) lines w
+  plan_part : PrintsPart before mid (rows_text (audit_left m input s)) (rows_text (audit_left m input (there s.cursor)))
+  plan_part =
+      part_before (plan_rows_from m.plan (300 - s.rows) s.rows) (plan_rows_from m.plan (300 - n) n) (line_left m.plan s.job s.facts s.cursor ++ behind m input s.next) w
 
-  -- the plan's rows fill the buffer
-  pub plan_stops : (after : List ℕ) (n end : ℕ) →
-      Written before after 0 end (rows_text (plan_rows_from m.plan (300 - s.rows) s.rows)) (rows_text (plan_rows_from m.plan (300 - n) n)) →
-      n < 300 → end ≤ length after → length after < end + 3000 →
-      FilledTo m input s before after 0 (record { place = record { rows = n; job = s.job; facts = s.facts; cursor = s.cursor; next = s.next }; end = end })
-  plan_stops after n end w h few full =
-      record { written = plan_part after n end w; fits = record { rows = omega arith; line = f.line }; few = few; full = λ _. full }
+  -- the plan's rows fill the page
+  pub plan_stops : n < 300 → room mid < 3000 → FilledOn m input s before mid (there s.cursor)
+  plan_stops h full = record { printed = plan_part; fits = record { rows = omega arith; line = f.line }; full = λ _. full }
 
   -- they do not
-  pub plan_passes : (mid after last : List ℕ) (n end : ℕ) →
-      Written before mid 0 end (rows_text (plan_rows_from m.plan (300 - s.rows) s.rows)) (rows_text (plan_rows_from m.plan (300 - n) n)) → n ≡ 300 →
-      (r : Printed) → LineDone m.plan s.job s.facts s.cursor mid after end r → (q : Filled) →
-      FilledTo m input (record { rows = n; job = s.job; facts = s.facts; cursor = r.cursor; next = s.next }) after last r.end q →
-      FilledTo m input s before last 0 q
-  unfolding plan_rows_from
-  plan_passes mid after last n end w e r d q t =
-      let here : Place = record { rows = n; job = s.job; facts = s.facts; cursor = s.cursor; next = s.next } in
-      let there : Place = record { rows = n; job = s.job; facts = s.facts; cursor = r.cursor; next = s.next } in
-      let first = subst (λ l. Written before mid 0 end (rows_text (audit_left m input s)) (rows_text l)) (lines_left m input here e) (plan_part mid n end w) in
-      let line = written_before (line_left m.plan s.job s.facts s.cursor) (line_left m.plan s.job s.facts r.cursor) (behind m input s.next) d.written in
-      let others = subst (λ l. Written after last r.end q.end (rows_text l) (rows_text (audit_left m input q.place))) (lines_left m input there e) t.written in
-      record { written = written_on (written_on first line) others; fits = t.fits; few = t.few; full = t.full }
+  pub plan_passes : n ≡ 300 → {after last : Page} (c : Cursor) → LineDone m.plan s.job s.facts s.cursor mid after c → (q : Place) →
+      FilledOn m input (there c) after last q → FilledOn m input s before last q
+  plan_passes e c d q t =
+      let more = part_before (line_left m.plan s.job s.facts s.cursor) (line_left m.plan s.job s.facts c) (behind m input s.next) d.printed in
+      let line = part_same (sym (lines_left m input (there s.cursor) e)) (sym (lines_left m input (there c) e)) more in
+      record { printed = part_on (part_on plan_part line) t.printed; fits = t.fits; full = t.full }
 
 -- what is finished has no row left
 pub finished_all : (m : Manager) (input : List ℕ) (s : Place) → PlaceFits m s → is_finished s (length input) ≡ true → audit_left m input s ≡ []

@@ -1,16 +1,9 @@
-use Rattle.std.proofs.Common.{rules, arith}
-use Rattle.job_rows.specs.laws.JobRowLaws.{row_written}
+use Rattle.job_rows.specs.laws.JobRowLaws.{row_printed}
 use Rattle.job_rows.proofs.print_job.Goals as goal
 
-pub loop-end-preserved : goal.loop-end-preserved
-loop-end-preserved c =
+pub loop-plan-preserved : goal.loop-plan-preserved
+loop-plan-preserved c =
     let a = c.args in
-    let l = c.loop-end in
+    let l = c.loop-plan in
     let done = c.in-Some.ensures in
-    let printed = c.print_row-end.ensures in
-    record {
-      same_length = search rules;
-      within = omega arith;
-      fits = done.fits;
-      written = row_written a.plan a.area a.task a.facts l.next c.in-Some.step done l.invariant.written printed.0;
-    }
+    record { fits = done.fits; printed = row_printed a.plan a.area a.task a.facts l.next c.in-Some.step done l.invariant.printed c.print_row.ensures }

@@ -14,13 +14,14 @@ use Rattle.figures.specs.laws.BoundLaws.{same_last, segment_some, next_cut_lem, 
 use Rattle.memory.specs.declared.Task.{Task}
 use Rattle.plan.specs.declared.records.Plan.{Plan}
 use Rattle.rows.specs.Rows.{row_text, rows_text}
-use Rattle.rows.specs.Written.{Written}
+use Rattle.rows.specs.Written.{PrintsPart}
 use Rattle.rows.specs.declared.Row.{Row}
-use Rattle.rows.specs.laws.WrittenLaws.{written_more}
+use Rattle.rows.specs.laws.WrittenLaws.{part_more}
 use Rattle.segment.specs.Segments.{is_lock, segment_at, segments_from}
 use Rattle.segment.specs.declared.Segment.{Segment}
 use Rattle.segment.specs.laws.CutLaws.{at_start, segments_end}
-use Rattle.texts.specs.Appended.{Appended}
+use Rattle.texts.specs.Pages.{Prints}
+use Rattle.texts.specs.declared.page.Page.{Page}
 use Rattle.job_rows.specs.JobRows.{head_row, refused_row, image_row, image_rows, no_image_row, window_row, stretch_row, segment_row, cut_rows, foot_rows, job_rows}
 use Rattle.job_rows.specs.Cursors.{rows_left, foot_index, AtSegment, AtRow, Ready, is_end, Fits}
 use Rattle.job_rows.specs.declared.Cursor.{Cursor}
@@ -168,12 +169,12 @@ module _ (p : Plan) (a : ℕ) (t : Task) (f : JobFacts) where
   none_left (Cut c) e = absurd (false≢true e)
   none_left (Foot r) e = absurd (false≢true e)
 
-  -- a row written
-  pub row_written : {before now after : List ℕ} {at end next : ℕ} {whole : List ℕ} (c : Cursor) (s : Step) → StepDone p a t f c s →
-      Written before now at end whole (rows_text (rows_left p a t f c)) → Appended now after end next (row_text s.row) →
-      Written before after at next whole (rows_text (rows_left p a t f s.cursor))
+  -- a row printed
+  pub row_printed : {x y z : Page} {whole : List ℕ} {most : ℕ} (c : Cursor) (s : Step) → StepDone p a t f c s →
+      PrintsPart x y whole (rows_text (rows_left p a t f c)) → Prints most y z (row_text s.row) →
+      PrintsPart x z whole (rows_text (rows_left p a t f s.cursor))
   unfolding rows_text
-  row_written c s d w q = written_more (row_text s.row) (ap rows_text d.rows) w q
+  row_printed c s d w q = part_more (row_text s.row) (ap rows_text d.rows) w q
 
   -- there is one row less
   pub one_less : (c : Cursor) (s : Step) → StepDone p a t f c s → length (rows_left p a t f s.cursor) < length (rows_left p a t f c)

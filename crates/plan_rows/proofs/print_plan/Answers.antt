@@ -1,14 +1,10 @@
 use Rattle.std.proofs.Common.{rules}
-use Rattle.rows.specs.laws.WrittenLaws.{written_more}
+use Rattle.rows.specs.laws.WrittenLaws.{part_none, part_more}
 use Rattle.plan_rows.specs.laws.PlanRowLaws.{place_next}
 use Rattle.plan_rows.proofs.print_plan.Goals as goal
 
+pub loop-next-init : goal.loop-next-init
+loop-next-init c = part_none _ _
+
 pub loop-next-preserved : goal.loop-next-preserved
-loop-next-preserved c =
-    let l = c.loop-next in
-    let p = c.print_place-end.ensures in
-    record {
-      within = p.1;
-      same_length = search rules;
-      written = written_more _ (place_next c.args.plan 300 l.next (search rules)) l.invariant.written p.0;
-    }
+loop-next-preserved c = part_more _ (place_next c.args.plan 300 c.loop-next.next (search rules)) c.loop-next.invariant c.print_place.ensures

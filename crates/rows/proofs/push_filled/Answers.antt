@@ -1,6 +1,6 @@
-use Rattle.std.proofs.Common.{◌≡◌, ◌∙◌, length, arith}
+use Rattle.std.proofs.Common.{◌≡◌, length, arith}
 use Rattle.rows.specs.laws.FormLaws.{number_next, byte_next, none_left}
-use Rattle.rows.specs.laws.WrittenLaws.{written_more, written_all}
+use Rattle.rows.specs.laws.WrittenLaws.{part_more, part_all}
 use Rattle.rows.proofs.push_filled.Goals as goal
 use Rattle.rows.proofs.push_filled.Goals.{then-byte-eq35, else-byte-eq35}
 
@@ -11,22 +11,12 @@ loop-byte-preserved c =
     elim c.if-byte-eq35.branch [
       | then-byte-eq35 w ↦
           let next = number_next a.form.now a.numbers.now l.byte-index l.k c.loop-byte-test.true w.if-byte-eq35.true in
-          let p = rw w.number_at.ensures at w.push_number-end.ensures.0 in
-          record {
-            numbers_bound = omega arith;
-            end_bound = omega arith;
-            long = rw w.out-is (p.long ∙ l.invariant.long);
-            written = rw (w.out-is, w.end-is, w.k-is) (written_more _ next l.invariant.written p);
-          }
+          let p = rw w.number_at.ensures at w.number.ensures in
+          record { numbers_bound = omega arith; few = rw w.page-is (omega (arith, p.few)); printed = rw (w.page-is, w.k-is) (part_more _ next l.invariant.printed p) }
       | else-byte-eq35 w ↦
           let next = byte_next a.form.now a.numbers.now l.byte-index l.k c.loop-byte-test.true w.if-byte-eq35.false in
-          let p = w.push-end.ensures.0 in
-          record {
-            numbers_bound = omega arith;
-            end_bound = omega arith;
-            long = rw w.out-is (p.long ∙ l.invariant.long);
-            written = rw (w.out-is, w.end-is, w.k-is) (written_more _ next l.invariant.written p);
-          }
+          let p = w.push.ensures in
+          record { numbers_bound = omega arith; few = rw w.page-is (omega (arith, p.few)); printed = rw (w.page-is, w.k-is) (part_more _ next l.invariant.printed p) }
     ]
 
 pub returns : goal.returns
@@ -34,4 +24,4 @@ returns c =
     let l = c.loop-byte in
     let a = c.args in
     let end : l.byte-index ≡ length a.form.now = omega arith in
-    (written_all (none_left a.form.now a.numbers.now l.byte-index l.k c.loop-byte-test.false) l.invariant.written, omega (arith, end))
+    part_all (none_left a.form.now a.numbers.now l.byte-index l.k c.loop-byte-test.false) l.invariant.printed (omega (arith, end))

@@ -15,6 +15,7 @@ use Rattle.manager.specs.Load.{loaded_manager}
 use Rattle.manager.specs.declared.Manager.{Manager}
 use Rattle.effects.specs.Effects.{memory_of}
 use Rattle.texts.specs.Appended.{Appended}
+use Rattle.texts.specs.declared.page.Page.{Page}
 use Rattle.session.specs.Fold.{Session, played, played_last, played_lines, played_input, played_all}
 use Rattle.session.specs.PlanText.{plan_text, open_text}
 use Rattle.session.specs.Play.{line_in, played_text, played_manager, played_memory}
@@ -122,22 +123,21 @@ module _ (ends : Bool) (room : ℕ) (m : Manager) (image store out : List ℕ) (
         ∙ last_line line here ends some.0 (omega (arith, long, some.1))
         ∙ last h)
 
-    pub lines_turn : is_line ends from to (length input) ≡ true → used ≡ from → (l : Option Line) (next : Manager) (image' store' : List ℕ) {out' : List ℕ} {end' : ℕ} →
-        l ≡ line_in m line → LineDone l m next (memory_of image store) (memory_of image' store') out out' end end' →
-        (x : Session) → played_lines ends room (cut_from 10 input from) here ≡ x →
-        (end' ≤ end + 338)
-        × (length out' ≡ length out)
-        × (played_lines ends room (cut_from 10 input (to + 1)) (session_of next image' store' out' end' (used_to (to + 1) input)) ≡ x)
-    lines_turn f u l next image' store' {out'} {end'} e p x w =
-        let d = line_done line l m next (memory_of image store) (memory_of image' store') e p in
-        let n = used_to (to + 1) input - from in (
-          d.1.1.1.1,
-          d.1.1.1.0.long,
-          ap (played_lines ends room (cut_from 10 input (to + 1)))
-              (played_more m next image store image' store' out out' line end end' used (used_to (to + 1) input) n d.0 d.1.0 d.1.1.0 d.1.1.1.0 (omega (arith, u)))
-              ∙ lines_one f n refl
-              ∙ w,
-        )
+-- and one that was played on a page
+pub lines_turn : (ends : Bool) (room : ℕ) (m next : Manager) (image store image' store' : List ℕ) (p q : Page) (used : ℕ) → p.end + 338 ≤ room →
+    (input : List ℕ) (from to : ℕ) → from ≤ to → to ≤ length input → cut_from 10 input from ≡ word input from to ∷ cut_from 10 input (to + 1) →
+    is_line ends from to (length input) ≡ true → used ≡ from → (l : Option Line) → l ≡ line_in m (word input from to) →
+    LineDone l m next (memory_of image store) (memory_of image' store') p q →
+    (x : Session) → played_lines ends room (cut_from 10 input from) (session_of m image store p.out.now p.end used) ≡ x →
+    played_lines ends room (cut_from 10 input (to + 1)) (session_of next image' store' q.out.now q.end (used_to (to + 1) input)) ≡ x
+lines_turn ends room m next image store image' store' p q used h input from to after within cut f u l e done x w =
+    let line = word input from to in
+    let d = line_done line l m next (memory_of image store) (memory_of image' store') e done in
+    let n = used_to (to + 1) input - from in
+    ap (played_lines ends room (cut_from 10 input (to + 1)))
+    (played_more m next image store image' store' p.out.now q.out.now line p.end q.end used (used_to (to + 1) input) n d.0 d.1.0 d.1.1.0 d.1.1.1.appended (omega (arith, u)))
+    ∙ lines_one ends room m image store p.out.now p.end used p.in_bounds h input from to after within cut f n refl
+    ∙ w
 
 -- the whole session by what was printed of the plan
 pub all_refused : (plan input image store : List ℕ) {before out : List ℕ} {k : ℕ} (m : Manager) → m ≡ loaded_manager plan →

@@ -1,5 +1,5 @@
 -- The plan's text by the cases that the code takes apart.
-use Rattle.std.specs.Prelude.{ℕ, ◌≤◌, ◌<◌, List, [], Result, Ok, Err, ◌≡◌, refl, length}
+use Rattle.std.specs.Prelude.{ℕ, ◌≤◌, ◌<◌, List, [], ◌≡◌, refl, length}
 use borrow.Author.Tests.{eq-eqb, lt-ltb, le-ltb}
 use Rattle.std.proofs.Common.{length-append, arith}
 use Rattle.manager.specs.Load.{fresh_manager, loaded_manager}
@@ -7,12 +7,8 @@ use Rattle.manager.specs.declared.Manager.{Manager}
 use Rattle.plan.proofs.laws.Accepted.{accepted}
 use Rattle.plan.specs.Records.{plan_of}
 use Rattle.plan.specs.Questions.{length_sum, load_number}
-use Rattle.texts.specs.Appended.{Appended}
-use Rattle.texts.specs.laws.AppendLaws.{append_none}
 use Rattle.texts.specs.Texts.{number_line, question_line}
-use Rattle.session.specs.declared.Closed.{Closed}
-use Rattle.session.specs.declared.Opened.{Opened}
-use Rattle.session.specs.PlanText.{device_sum_of, plan_text, open_text, image_length_of, manager_in, written_in, image_length_in}
+use Rattle.session.specs.PlanText.{device_sum_of, plan_text, open_text, image_length_of}
 
 -- an accepted load keeps the plan that the bytes hold
 module _ (l : List ℕ) (m : Manager) (e : m ≡ loaded_manager l) (zero : load_number l ≡ 0) where
@@ -48,25 +44,26 @@ module _ (l : List ℕ) where
   unfolding plan_text
   text_accepted h e k = rw (le-ltb _ _ h, e, le-ltb _ _ k)
 
--- what `open` did
-abbrev pub OpenDone : List ℕ → Result Opened Closed → List ℕ → List ℕ → Type 0
-OpenDone l r before after =
-    (manager_in r ≡ loaded_manager l)
-    × (((Appended before after 0 (written_in r) (open_text (length before) l)) × (written_in r ≤ length after))
-    × ((image_length_in r ≡ image_length_of (length before) l) × (image_length_in r ≤ 65536)))
+-- what is printed into a buffer of `room` bytes, and how long the image is
+module _ (l : List ℕ) (room : ℕ) where
+  module _ (h : room < 338) where
+    pub nothing_fits : [] ≡ open_text room l
+    unfolding open_text
+    nothing_fits = rw (lt-ltb room 338 h)
 
-module _ (l : List ℕ) (m : Manager) {a : List ℕ} (e : m ≡ loaded_manager l) where
-  pub open_full : length a < 338 → OpenDone l (Err (record { manager = m; written = 0 })) a a
-  unfolding open_text image_length_of
-  open_full h = rw (lt-ltb (length a) 338 h) (e, ((append_none a 0, omega arith), (refl, omega arith)))
+    pub no_image : 0 ≡ image_length_of room l
+    unfolding image_length_of
+    no_image = rw (lt-ltb room 338 h)
 
-  pub open_closed : {b text : List ℕ} (j : ℕ) → 338 ≤ length a → text ≡ plan_text l → 1 ≤ length text → Appended a b 0 j text → j ≤ 338 →
-      OpenDone l (Err (record { manager = m; written = j })) a b
-  unfolding open_text image_length_of
-  open_closed j h t k p few =
-      rw (le-ltb (length a) 338 h, ← t, le-ltb _ _ k) (e, ((p, omega (arith, p.long)), (refl, omega arith)))
+  module _ (h : 338 ≤ room) {text : List ℕ} (t : text ≡ plan_text l) where
+    pub text_fits : text ≡ open_text room l
+    unfolding open_text
+    text_fits = rw (le-ltb room 338 h) t
 
-  pub open_open : (n : ℕ) → 338 ≤ length a → [] ≡ plan_text l → n ≡ device_sum_of l → n ≤ 65536 →
-      OpenDone l (Ok (record { manager = m; image_length = n })) a a
-  unfolding open_text image_length_of
-  open_open n h t g few = rw (le-ltb (length a) 338 h, ← t) (e, ((append_none a 0, omega arith), (g, few)))
+    pub image_closed : 1 ≤ length text → 0 ≡ image_length_of room l
+    unfolding image_length_of
+    image_closed k = rw (le-ltb room 338 h, ← t, le-ltb _ _ k)
+
+    pub image_open : text ≡ [] → (n : ℕ) → n ≡ device_sum_of l → n ≡ image_length_of room l
+    unfolding image_length_of
+    image_open e n g = rw (le-ltb room 338 h, ← t, e) g

@@ -1,9 +1,8 @@
 -- A line by the cases that the code takes apart.
-use Rattle.std.specs.Prelude.{ℕ, Option, Some, ◌+◌, ◌≤◌, ◌<◌, List, ◌≡◌, refl}
-use Rattle.std.proofs.Common.{sym, ap, ◌∙◌, arith, eq-eqb, ne_eqb}
-use Rattle.state.specs.declared.JobInfo.{JobInfo}
-use Rattle.texts.specs.Appended.{Appended}
-use Rattle.texts.specs.Texts.{number_line, info_line}
+use Rattle.std.specs.Prelude.{ℕ, Option, Some, List, ◌≡◌, refl}
+use Rattle.std.proofs.Common.{sym, ap, ◌∙◌}
+use Rattle.texts.specs.Pages.{Prints}
+use Rattle.texts.specs.declared.page.Page.{Page}
 use Rattle.lines.specs.declared.Line.{Line}
 use Rattle.lines.specs.declared.LineCall.{LineCall}
 use Rattle.lines.specs.declared.LineCall.TheVariants as Calls
@@ -15,7 +14,7 @@ use Rattle.memory.specs.declared.JobType.TheVariants.{Write, Read, Compare, Eras
 use Rattle.rules.specs.Memory.{Memory}
 use Rattle.session.specs.declared.play.PlainCall.{PlainCall}
 use Rattle.session.specs.declared.play.PlainCall.TheVariants as Plain
-use Rattle.session.specs.Play.{address_in, task_in, number_of_call, after_call, info_text, round_text, text_of_line, after_line, memory_after_line, line_in, played_text, played_manager, played_memory}
+use Rattle.session.specs.Play.{address_in, task_in, number_of_call, after_call, text_of_line, after_line, memory_after_line, line_in, played_text, played_manager, played_memory}
 
 -- a call by the function that carries it out
 abbrev pub job_of : JobType → Target → PlainCall
@@ -59,41 +58,23 @@ plain_done x y z e f m n next g h =
     let same = plain_same x m in
     (g ∙ ap (λ w. number_of_plain w m) k ∙ same.0, h ∙ ap (λ w. after_plain w m) k ∙ same.1)
 
-module _ {a b : List ℕ} {i j : ℕ} (n m : ℕ) (e : m ≡ n) (x : JobInfo) where
-  pub info_refused : 0 < m → Appended a b i j (number_line m) → Appended a b i j (info_text n x)
-  info_refused h p = rw (ne_eqb n 0 (λ z. omega arith)) (rw e at p)
-
-  pub info_accepted : m ≤ 0 → Appended a b i j (info_line x.result.0 x.processed x.waits.own x.waits.above x.waits.below x.waits.locked) →
-      Appended a b i j (info_text n x)
-  info_accepted h p = rw (eq-eqb n 0 (omega arith)) p
-
-pub number_same : {a b : List ℕ} {i j n m : ℕ} → n ≡ m → Appended a b i j (number_line n) → Appended a b i j (number_line m)
-number_same e p = rw e at p
-
 -- what a line did: the manager that it left, the lent memory, and the text that it printed
-abbrev pub LineDone : Option Line → Manager → Manager → Memory → Memory → List ℕ → List ℕ → ℕ → ℕ → Type 0
-LineDone l m next lent memory before after at end =
-    (next ≡ after_line l m lent)
-    × ((memory.image ≡ (memory_after_line l m lent).image)
-    × ((memory.store ≡ (memory_after_line l m lent).store)
-    × ((Appended before after at end (text_of_line l m lent)) × (end ≤ at + 338))))
+pub record LineDone (l : Option Line) (m next : Manager) (lent memory : Memory) (before after : Page) : Type 0 where
+  pub manager : next ≡ after_line l m lent
+  pub image : memory.image ≡ (memory_after_line l m lent).image
+  pub store : memory.store ≡ (memory_after_line l m lent).store
+  pub printed : Prints 338 before after (text_of_line l m lent)
 
-pub info_same : {a b : List ℕ} {i j n m : ℕ} {x y : JobInfo} → n ≡ m → x ≡ y → Appended a b i j (info_text n x) → Appended a b i j (info_text m y)
-info_same e f p = rw (e, f) at p
-
-pub round_same : {a b : List ℕ} {i j n m : ℕ} {next after : Manager} → n ≡ m → next ≡ after → Appended a b i j (round_text n next) → Appended a b i j (round_text m after)
-round_same e f p = rw (e, f) at p
-
-pub line_is : (l : Option Line) (x y : Line) (m next : Manager) (lent memory : Memory) {a b : List ℕ} {i j : ℕ} → l ≡ Some x → x ≡ y →
-    LineDone (Some y) m next lent memory a b i j → LineDone l m next lent memory a b i j
-line_is l x y m next lent memory e f p = rw (e, f) p
+pub line_is : (l : Option Line) (x y : Line) (m next : Manager) (lent memory : Memory) {p q : Page} → l ≡ Some x → x ≡ y →
+    LineDone (Some y) m next lent memory p q → LineDone l m next lent memory p q
+line_is l x y m next lent memory e f d = rw (e, f) d
 
 -- the line that the bytes say
-pub line_done : (bytes : List ℕ) (l : Option Line) (m next : Manager) (lent memory : Memory) {a b : List ℕ} {i j : ℕ} → l ≡ line_in m bytes →
-    LineDone l m next lent memory a b i j →
+pub line_done : (bytes : List ℕ) (l : Option Line) (m next : Manager) (lent memory : Memory) {p q : Page} → l ≡ line_in m bytes →
+    LineDone l m next lent memory p q →
     (next ≡ played_manager m bytes lent)
     × ((memory.image ≡ (played_memory m bytes lent).image)
     × ((memory.store ≡ (played_memory m bytes lent).store)
-    × ((Appended a b i j (played_text m bytes lent)) × (j ≤ i + 338))))
+    × Prints 338 p q (played_text m bytes lent)))
 unfolding played_text played_manager played_memory
-line_done bytes l m next lent memory e p = rw e at p
+line_done bytes l m next lent memory e d = let f = rw e at d in (f.manager, (f.image, (f.store, f.printed)))

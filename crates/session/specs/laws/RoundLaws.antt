@@ -1,17 +1,14 @@
 -- The answer to a round by the cases that the code takes apart.
-use Rattle.std.specs.Prelude.{ℕ, ◌≤◌, ◌<◌, true, List, ◌≡◌}
+use Rattle.std.specs.Prelude.{◌≤◌, true, List, ◌≡◌}
 use Rattle.std.proofs.Common.{arith}
-use borrow.Author.Tests.{eq-eqb, ne_eqb}
+use borrow.Author.Tests.{eq-eqb}
 use Rattle.arith.specs.Cases.{by_bool}
 use Rattle.machine.specs.Sound.{is_sound}
 use Rattle.machine.specs.laws.SoundCases.{sound_counts}
-use Rattle.changes.specs.Accepted.{if_accepted}
 use Rattle.manager.specs.Calls.{round_number_of, after_round}
 use Rattle.manager.specs.declared.Manager.{Manager}
 use Rattle.memory.specs.declared.DeviceAnswer.{DeviceAnswer}
 use Rattle.rules.specs.Memory.{Memory}
-use Rattle.texts.specs.Appended.{Appended}
-use Rattle.texts.specs.Texts.{number_line}
 
 module _ (m : Manager) (answers : List DeviceAnswer) (lent : Memory) (e : round_number_of m lent ≡ 0) where
   -- an accepted round is of a sound state
@@ -26,10 +23,3 @@ module _ (m : Manager) (answers : List DeviceAnswer) (lent : Memory) (e : round_
   round_shows next f =
       let few = sound_counts m.plan m.areas m.devices round_sound in
       rw (f, eq-eqb (round_number_of m lent) 0 e) (few.2, few.0)
-
-module _ {a b : List ℕ} {i j : ℕ} (n k : ℕ) (e : k ≡ n) (line : List ℕ) where
-  pub round_refused : 0 < k → Appended a b i j (number_line k) → Appended a b i j (if_accepted n line (number_line n))
-  round_refused h p = rw (ne_eqb n 0 (λ z. omega arith)) (rw e at p)
-
-  pub round_accepted : k ≤ 0 → Appended a b i j line → Appended a b i j (if_accepted n line (number_line n))
-  round_accepted h p = rw (eq-eqb n 0 (omega arith)) p

@@ -15,8 +15,6 @@ use Rattle.segment.specs.Segments.{segment_at}
 use Rattle.segment.specs.declared.Segment.{Segment}
 use Rattle.state.specs.declared.DeviceState.TheVariants.{Runs}
 use Rattle.state.specs.declared.Job.{Job}
-use Rattle.texts.specs.Appended.{Appended}
-use Rattle.texts.specs.laws.AppendLaws.{append_more, append_none, append_same}
 use Rattle.texts.specs.Texts.{request_text}
 use Rattle.shown.specs.Shown.{shown_text, shown_texts}
 
@@ -34,23 +32,14 @@ module _ (p : Plan) (c : Core) where
   unfolding shown_to
   shown_more d = rw add-one (sym (texts_more (shown_to p c d) (shown_on p c.jobs (c.devices d).state)))
 
--- what a device shows, by what it does
-module _ (p : Plan) (jobs : ℕ → Job) {a b : List ℕ} {i j : ℕ} where
-  pub request_shown : (r n : ℕ) (k : Job) (start : LogicalAddress) (s : Segment) → k ≡ jobs r → n ≡ job_type_number k.task.kind → start ≡ (area_of p.areas r).start →
-      s ≡ segment_from p.sub_areas p.sub_area_count start.0 r k.task k.processed →
-      Appended a b i j (request_text r n s.start.0 s.length) → Appended a b i j (shown_text (shown_on p jobs (Runs r 0)))
-  unfolding layout_of
-  request_shown r n k start s job e at f =
-      let n-is : n ≡ job_type_number (jobs r).task.kind = e ∙ ap (λ x. job_type_number x.task.kind) job in
-      let s-is : s ≡ segment_at p r (jobs r).task (jobs r).processed
-      = f ∙ ap (λ (x : LogicalAddress). segment_from p.sub_areas p.sub_area_count x.0 r k.task k.processed) at
-      ∙ segment_from_lem p r k.task k.processed ∙ ap (λ (x : Job). segment_at p r x.task x.processed) job in
-      λ h. rw (n-is, s-is) at h
-
--- device d behind those below it
-pub device_shown : (p : Plan) (c : Core) (d : ℕ) {x y z : List ℕ} {i j k : ℕ} → Appended x y i j (shown_texts (shown_to p c d)) →
-    Appended y z j k (shown_text (shown_on p c.jobs (c.devices d).state)) → Appended x z i k (shown_texts (shown_to p c (d + 1)))
-device_shown p c d q r = append_same (shown_more p c d) (append_more q r)
-
-pub none_shown : (p : Plan) (c : Core) (l : List ℕ) (i : ℕ) → Appended l l i i (shown_texts (shown_to p c 0))
-none_shown p c l i = append_same (sym (shown_none p c)) (append_none l i)
+-- what a device shows that runs, by its area's due segment
+pub request_shown : (p : Plan) (jobs : ℕ → Job) (r n : ℕ) (k : Job) (start : LogicalAddress) (s : Segment) → k ≡ jobs r → n ≡ job_type_number k.task.kind →
+    start ≡ (area_of p.areas r).start → s ≡ segment_from p.sub_areas p.sub_area_count start.0 r k.task k.processed →
+    request_text r n s.start.0 s.length ≡ shown_text (shown_on p jobs (Runs r 0))
+unfolding layout_of
+request_shown p jobs r n k start s job e at f =
+    let n-is : n ≡ job_type_number (jobs r).task.kind = e ∙ ap (λ x. job_type_number x.task.kind) job in
+    let s-is : s ≡ segment_at p r (jobs r).task (jobs r).processed
+    = f ∙ ap (λ (x : LogicalAddress). segment_from p.sub_areas p.sub_area_count x.0 r k.task k.processed) at
+    ∙ segment_from_lem p r k.task k.processed ∙ ap (λ (x : Job). segment_at p r x.task x.processed) job in
+    rw (n-is, s-is)

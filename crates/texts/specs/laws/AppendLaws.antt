@@ -1,10 +1,7 @@
 -- Texts written one behind the other.
-use Rattle.std.specs.Prelude.{ℕ, ◌+◌, ◌<◌, ◌≡◌, refl, List, [], ◌∷◌, ◌++◌, length, set}
-use Rattle.std.proofs.Common.{◌∙◌, append_assoc, append-nil, add-one, arith, length-set, length-append, take-suc-set}
+use Rattle.std.specs.Prelude.{ℕ, ◌≡◌, refl, List, [], ◌++◌}
+use Rattle.std.proofs.Common.{◌∙◌, append_assoc, append-nil, arith, length-append}
 use Rattle.texts.specs.Appended.{Appended}
-
-pub append_byte : (l : List ℕ) (at byte : ℕ) → at < length l → Appended l (set l at byte) at (at + 1) (byte ∷ [])
-append_byte l at byte h = record { bytes = rw (add-one, take-suc-set l at byte h); ends = refl; long = simp length-set }
 
 pub append_none : (l : List ℕ) (at : ℕ) → Appended l l at at []
 append_none l at = record { bytes = rw append-nil; ends = omega arith; long = refl }

@@ -1,8 +1,9 @@
-use Rattle.std.proofs.Common.{ap, sym, ◌∙◌}
+use Rattle.std.proofs.Common.{ap, sym, ◌∙◌, arith}
 use Rattle.effects.specs.Effects.{memory_of}
 use Rattle.manager.specs.Calls.{manager_of}
-use Rattle.session.specs.laws.PlayLaws.{round_same}
+use Rattle.session.specs.Play.{round_text}
 use Rattle.session.specs.laws.RoundLaws.{round_shows}
+use Rattle.texts.specs.laws.PageLaws.{prints_same}
 use Rattle.session.proofs.play.play_round.Goals as goal
 
 pub print_round-requires-clause-sub_area_count_bound : goal.print_round-requires-clause-sub_area_count_bound
@@ -20,5 +21,5 @@ returns c =
       manager_value = next;
       image_after = r.ensures.image_after m.wear;
       store_after = r.ensures.store_after m.wear;
-      appended = (round_same (r.ensures.answer_value m.wear) next c.print_round.ensures.0, c.print_round.ensures.1);
+      printed = prints_same (λ i. round_text (r.ensures.answer_value m.wear i) (next i)) (omega arith) c.print_round.ensures;
     }
