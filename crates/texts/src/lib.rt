@@ -1,24 +1,36 @@
 // What a session prints (document 01, "A printed session"), written behind what stands on a page.
 #![tactic(auto)]
 
-ghost use Rattle.std.specs.Prelude.{[], ◌∷◌, ◌≤◌};
+ghost use Rattle.std.specs.Prelude.{[], ◌∷◌, ◌≤◌, length};
 ghost use Rattle.texts.specs.Pages.{Prints, room};
 ghost use Rattle.texts.specs.Texts.{behind, decimal, number_line, question_line, info_line, free_text, locked_text, request_text};
 
 pub mod page;
 
 use crate::page::Page;
-use itoa::Buffer;
 use memory::JobResult;
 use state::Waits;
 
 impl<'a> Page<'a> {
+    // The digits of a number, the highest first.
+    fn digits(&mut self, n: u64)
+        requires { length (decimal n) ≤ room self.old }
+        ensures { Prints (length (decimal n)) self.old self.new (decimal n) }
+    {
+        if n < 10 {
+            self.push(b'0' + n as u8);
+        } else {
+            self.digits(n / 10);
+            self.push(b'0' + (n % 10) as u8);
+        }
+    }
+
     // A number takes at most 20 bytes.
     pub fn number(&mut self, n: u64)
         requires { 20 ≤ room self.old }
         ensures { Prints 20 self.old self.new (decimal n) }
     {
-        self.push_all(Buffer::new().format(n).as_bytes());
+        self.digits(n);
     }
 
     // A number behind a character.

@@ -1,9 +1,9 @@
--- The digits of a number are the text that the library prints of it.
-use Rattle.std.specs.Prelude.{ℕ, zero, suc, ◌+◌, ◌/◌, ◌%◌, ◌^◌, ◌≤◌, ◌<◌, ◌≡◌, refl, List, [], ◌∷◌, ◌++◌}
+-- The digits of a number are those of a tenth of it, and its last behind them.
+use Rattle.std.specs.Prelude.{ℕ, zero, suc, ◌+◌, ◌/◌, ◌%◌, ◌^◌, ◌≤◌, ◌<◌, ◌≡◌, refl, List, [], ◌∷◌, ◌++◌, length}
 use Rattle.std.specs.Fmt
-use Rattle.std.proofs.Common.{sym, ap, ◌∙◌, pow-suc, add-one, arith}
+use Rattle.std.proofs.Common.{sym, ap, ◌∙◌, pow-suc, add-one, arith, length-append}
 use Rattle.std.proofs.Math.Nat.{div-div-eq-div-mul, mul_comm}
-use Rattle.std.proofs.lemmas.Fmt.{decimal_by_steps}
+use Rattle.std.proofs.lemmas.Fmt.{decimal_by_steps, decimal_digit, decimal_step}
 use Rattle.arith.specs.Bounded.{sum}
 use Rattle.texts.specs.Texts.{digit_of, digits_of, decimal}
 use Rattle.texts.specs.laws.TextLaws.{power_more, power_fits, reached, count_more, count_all}
@@ -55,8 +55,23 @@ more_digits n ds h d =
       same = ap (λ l. l ++ ((48 + n % 10) ∷ [])) d.same ∙ sym (digits_tenth (d.k + 1) n) ∙ ap (λ j. digits_of j n) (sym (add-one (d.k + 1)));
     }
 
-pub decimal_same : (n : ℕ) → n < 2 ^ 64 → Fmt.decimal n ≡ decimal n
+decimal_same : (n : ℕ) → n < 2 ^ 64 → Fmt.decimal n ≡ decimal n
 unfolding decimal
 decimal_same n h =
     let d : Digits n (Fmt.decimal n) = decimal_by_steps Digits one_digit more_digits n h in
     d.same ∙ ap (λ j. digits_of j n) (count_all n d.k d.below (few_digits d.k n d.most h) (reaches_all n d.k d.most))
+
+pub decimal_one : (n : ℕ) → n < 10 → decimal n ≡ (48 + n) ∷ []
+decimal_one n h = sym (decimal_same n (omega arith)) ∙ decimal_digit n h
+
+pub decimal_more : (n : ℕ) → 10 ≤ n → n < 2 ^ 64 → decimal n ≡ decimal (n / 10) ++ ((48 + n % 10) ∷ [])
+decimal_more n h k =
+    sym (decimal_same n k)
+    ∙ decimal_step n h k
+    ∙ ap (λ l. l ++ ((48 + n % 10) ∷ [])) (decimal_same (n / 10) (omega arith))
+
+pub count_one : (n : ℕ) → n < 10 → length (decimal n) ≡ 1
+count_one n h = ap length (decimal_one n h)
+
+pub count_more_digits : (n : ℕ) → 10 ≤ n → n < 2 ^ 64 → length (decimal n) ≡ length (decimal (n / 10)) + 1
+count_more_digits n h k = ap length (decimal_more n h k) ∙ length-append (decimal (n / 10)) ((48 + n % 10) ∷ [])

@@ -1,0 +1,4 @@
+use Rattle.texts.proofs.page.Page.+digits.Given as goal
+
+abbrev pub decreases-digits : goal.decreases-digits
+decreases-digits l = l.n
