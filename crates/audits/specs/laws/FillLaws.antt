@@ -2,7 +2,6 @@
 use Rattle.std.specs.Prelude.{Some, None, ℕ, ◌+◌, ◌-◌, ◌≤◌, ◌<◌, true, false, List, [], ◌∷◌, ◌++◌, ◌⊎◌, ◌≡◌, refl, length, take}
 use Rattle.std.proofs.Common.{true≢false, append_assoc, ⊎_elim, sym, ap, ◌∙◌, arith, leb-true, length-append}
 use Rattle.std.proofs.lemmas.Bool.{false≢true}
-use Rattle.std.proofs.Math.Path.{subst}
 use Rattle.arith.specs.Cases.{by_bool, by_ltb, by_eqb}
 use Rattle.job_rows.specs.Cursors.{is_end}
 use Rattle.job_rows.specs.declared.Cursor.{Cursor}
@@ -23,9 +22,8 @@ use Rattle.session.specs.AllLines.{lines_of}
 use Rattle.texts.specs.Pages.{Prints, room}
 use Rattle.texts.specs.declared.page.Page.{Page}
 use Rattle.audits.specs.Audits.{JobLine, jobs_in, refused_facts, facts_of, unreadable_row, lines_from, rows_of_job, rows_of_lines, audit_rows, line_left, audit_left}
-use Rattle.audits.specs.Filled.{first_place, is_finished, LineFits, PlaceFits, FilledTo}
+use Rattle.audits.specs.Filled.{first_place, is_finished, LineFits, PlaceFits}
 use Rattle.audits.specs.declared.JobAt.{JobAt}
-use Rattle.audits.specs.declared.fill.Filled.{Filled}
 use Rattle.audits.specs.declared.fill.Place.{Place}
 use Rattle.audits.specs.laws.LineLaws.{NextJob, lines_all, lines_none}
 use Rattle.audits.specs.laws.LoadLaws.{Loaded, audited}

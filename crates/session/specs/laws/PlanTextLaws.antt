@@ -1,5 +1,5 @@
 -- The plan's text by the cases that the code takes apart.
-use Rattle.std.specs.Prelude.{ℕ, ◌≤◌, ◌<◌, List, [], ◌≡◌, refl, length}
+use Rattle.std.specs.Prelude.{ℕ, ◌≤◌, ◌<◌, List, [], ◌≡◌, length}
 use borrow.Author.Tests.{eq-eqb, lt-ltb, le-ltb}
 use Rattle.std.proofs.Common.{length-append, arith}
 use Rattle.manager.specs.Load.{fresh_manager, loaded_manager}
