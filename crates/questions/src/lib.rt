@@ -122,9 +122,7 @@ fn image_fits(plan: Plan, image: &[u8]) -> bool
     requires { plan.device_count ≤ 4 }
     ensures { result ≡ image_fits plan image.now }
 {
-    let devices = plan.devices;
-    let sum = device_sum(devices, plan.device_count);
-    image.len() as u64 == sum
+    image.len() as u64 == device_sum(plan.devices, plan.device_count)
 }
 
 // 19: does the store reach every window's end, and so the furthest?
@@ -132,16 +130,9 @@ fn store_reaches(plan: Plan, store: &[u8]) -> bool
     requires { plan.area_count ≤ 8 }
     ensures { result ≡ store_reaches plan store.now }
 {
-    let records = plan.areas;
-    let mut a = 0;
-    while a < plan.area_count {
-        let record = records[a];
-        if (store.len() as u64) < record.window_end() {
-            return false;
-        }
-        a += 1;
-    }
-    true
+    plan.areas[..plan.area_count]
+        .iter()
+        .all(|area| area.window_end() <= store.len() as u64)
 }
 
 // 9, 18, 19, with the due segments of the pending jobs, and counts that fit.
@@ -156,12 +147,10 @@ fn round_answer(
     requires { (counts_fit plan.device_count plan.area_count plan.sub_area_count ≡ true) × Due plan dues (job_in areas) }
     ensures { admission_number result ≡ pick (is_sound plan areas devices) (round_number plan image.now store.now) 9 }
 {
-    let device_records = plan.devices;
-    let area_records = plan.areas;
     if !states_fit(
-        device_records,
+        plan.devices,
         plan.device_count,
-        area_records,
+        plan.areas,
         plan.area_count,
         areas,
         devices,
@@ -180,6 +169,7 @@ fn round_answer(
 
 // 9, 18, 19: the answer to a round, with the due segments of the pending jobs, which an accepted round goes on with. Of a state
 // that is not sound they are left open: no round follows.
+// stays: the clause due_if_sound of round_admission speaks of the dues also where the answer is 18 or 19, and an Err holds none.
 #[derive(Clone, Copy)]
 pub struct RoundAdmission {
     pub answer: Admission,
@@ -197,15 +187,12 @@ pub fn round_admission(
     ensures due_if_sound { DueIfSound plan areas devices result.dues }
 {
     if !counts_fit(plan.device_count, plan.area_count, plan.sub_area_count) {
-        let dues = [no_segment(); 8];
         return RoundAdmission {
             answer: Err(Refusal::Unsound),
-            dues,
+            dues: [no_segment(); 8],
         };
     }
-    let sub_areas = plan.sub_areas;
-    let area_records = plan.areas;
-    let dues = due_segments(sub_areas, plan.sub_area_count, area_records, areas);
+    let dues = due_segments(plan.sub_areas, plan.sub_area_count, plan.areas, areas);
     let answer = round_answer(plan, areas, devices, dues, image, store);
     RoundAdmission { answer, dues }
 }

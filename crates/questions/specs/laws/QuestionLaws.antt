@@ -1,7 +1,5 @@
 -- The questions of the calls by the cases that the code takes apart.
-use Rattle.std.specs.Prelude.{ℕ, ◌≤◌, ◌<◌, true, false, List, ◌≡◌, leb, eqb, length}
-use Rattle.std.proofs.Common.{le-leb}
-use Rattle.std.proofs.lemmas.Bool.{lt-leb}
+use Rattle.std.specs.Prelude.{ℕ, true, false, List, ◌≡◌, eqb, length}
 use Rattle.arith.specs.Cases.{pick}
 use Rattle.arith.specs.FirstNo.{first_no}
 use Rattle.plan.specs.Questions.{length_sum}
@@ -22,14 +20,6 @@ devices_alone devices = record { jobs = λ _. no_job; devices = device_in device
 pub image_fits_lem : (p : Plan) (image : List ℕ) (s : ℕ) → s ≡ length_sum p.devices p.device_count → eqb (length image) s ≡ image_fits p image
 unfolding image_fits
 image_fits_lem p image s e = rw e
-
--- question 19, of one window that ends at e
-module _ (e n end : ℕ) (is : e ≡ end) where
-  pub window_reached : e ≤ n → leb end n ≡ true
-  window_reached h = rw (← is) (le-leb e n h)
-
-  pub window_missed : n < e → leb end n ≡ false
-  window_missed h = rw (← is) (lt-leb e n h)
 
 -- a round
 module _ (p : Plan) (areas : List Area) (devices : List Device) (image store : List ℕ) where
