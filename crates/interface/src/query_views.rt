@@ -87,8 +87,8 @@ impl StatusView {
     {
         let asked = manager.status(area);
         StatusView {
-            number: answer_number(asked.answer),
-            status: asked.status,
+            number: answer_number(asked),
+            status: asked.unwrap_or(0),
         }
     }
 }
@@ -99,8 +99,8 @@ impl ResultView {
     {
         let asked = manager.result(area);
         ResultView {
-            number: answer_number(asked.answer),
-            result: asked.result,
+            number: answer_number(asked),
+            result: asked.unwrap_or(JobResult::OK),
         }
     }
 }
@@ -111,8 +111,8 @@ impl ProcessedView {
     {
         let asked = manager.processed(area);
         ProcessedView {
-            number: answer_number(asked.answer),
-            processed: asked.processed,
+            number: answer_number(asked),
+            processed: asked.unwrap_or(0),
         }
     }
 }
@@ -122,9 +122,9 @@ impl JobInfoView {
         ensures { result ≡ job_info_view manager area }
     {
         let asked = manager.job_info(area);
-        let info = asked.info;
+        let info = asked.unwrap_or_default();
         JobInfoView {
-            number: answer_number(asked.answer),
+            number: answer_number(asked),
             kind: info.task.kind.number(),
             address: info.task.address,
             length: info.task.length,
@@ -144,9 +144,9 @@ impl MemoryInfoView {
         ensures { result ≡ memory_info_view manager area address }
     {
         let asked = manager.memory_info(area, address);
-        let info = asked.info;
+        let info = asked.unwrap_or_default();
         MemoryInfoView {
-            number: answer_number(asked.answer),
+            number: answer_number(asked),
             logical_start: info.logical_start,
             physical_start: info.physical_start,
             max_offset: info.max_offset,
@@ -163,10 +163,11 @@ impl WearInfoView {
         ensures { result ≡ wear_info_view manager area address }
     {
         let asked = manager.wear_info(area, address);
+        let info = asked.unwrap_or_default();
         WearInfoView {
-            number: answer_number(asked.answer),
-            sum: asked.info.sum,
-            charge: asked.info.charge,
+            number: answer_number(asked),
+            sum: info.sum,
+            charge: info.charge,
         }
     }
 }

@@ -144,8 +144,8 @@ pub fn infos(plan: &[u8], kind: u8, length: u32, times: u32) -> u64
     let manager = busy(plan, kind, length);
     let mut sum: u64 = 0;
     for i in 0..times {
-        let asked = manager.job_info((i % 8) as usize);
-        sum += asked.info.task.length as u64;
+        let info = manager.job_info((i % 8) as usize).unwrap_or_default();
+        sum += info.task.length as u64;
     }
     sum
 }
@@ -169,8 +169,8 @@ fn left_sum(manager: Manager) -> u64
 {
     let mut sum: u64 = 0;
     for i in 0..8 {
-        let asked = manager.processed(i);
-        sum += asked.processed as u64 + manager.wear[i] as u64;
+        let processed = manager.processed(i).unwrap_or(0);
+        sum += processed as u64 + manager.wear[i] as u64;
     }
     sum
 }

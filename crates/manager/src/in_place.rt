@@ -12,11 +12,12 @@ use machine::soundness::is_sound;
 use memory::{Admission, DeviceAnswer, LogicalAddress, Task};
 use plan::records::Plan;
 use questions::{cancel_admission, idle_admission, release_admission, round_admission};
-use rounds::halves::run_round;
+use rounds::halves::{Arrays, run_round};
 use state::{Area, Device, DeviceState};
 use wear::Worn;
 
 // What a round changes. The owner adds what it wears to the sums: `wear::add_worn`.
+// stays: the clause manager_value of round_change says the parts also where the round is refused, and an Err holds none.
 #[derive(Clone, Copy)]
 pub struct RoundChange {
     pub areas: [Area; 8],
@@ -84,14 +85,14 @@ pub fn release_change(
         Err(_) => Change::none(areas, devices, ages, answer),
         Ok(()) => {
             let number = range_device(plan, area, address, length) as usize;
-            let old = devices[number];
-            let suspended = old.suspended;
-            let state = DeviceState::Free;
             Change {
                 area_number: 0,
                 area: areas[0],
                 device_number: number,
-                device: Device { state, suspended },
+                device: Device {
+                    state: DeviceState::Free,
+                    ..devices[number]
+                },
                 ages,
                 answer,
             }
@@ -124,11 +125,13 @@ pub fn round_change(
             answer,
         },
         Ok(()) => {
-            let dues = asked.dues;
-            let next = run_round(plan, answers, areas, devices, ages, dues, image, store);
-            let areas = next.areas;
-            let devices = next.devices;
-            let worn = next.worn;
+            let Arrays {
+                areas,
+                devices,
+                worn,
+            } = run_round(
+                plan, answers, areas, devices, ages, asked.dues, image, store,
+            );
             RoundChange {
                 areas,
                 devices,

@@ -1,9 +1,10 @@
 // What a line's call changes of the manager, and its answer printed on a page.
 ghost use Rattle.std.specs.Prelude.{◌≡◌, ℕ, ◌≤◌, ◌<◌, List};
+ghost use Rattle.std.specs.Result.{result_unwrap_or};
 ghost use Rattle.devices.specs.Arrays.{core_in};
 ghost use Rattle.effects.specs.Effects.{memory_of};
 ghost use Rattle.changes.specs.Accepted.{if_accepted};
-ghost use Rattle.manager.specs.Calls.{manager_of, changed, round_number_of, after_round, memory_after_round};
+ghost use Rattle.manager.specs.Calls.{manager_of, changed, no_job_info, round_number_of, after_round, memory_after_round};
 ghost use Rattle.memory.specs.Numbers.{admission_number};
 ghost use Rattle.shown.specs.Shown.{devices_line};
 ghost use Rattle.texts.specs.Pages.{Prints, room};
@@ -14,11 +15,11 @@ ghost use Rattle.session.specs.laws.PlayLaws.{job_of, plain_of, LineDone};
 use changes::Change;
 use lines::{Line, LineCall, Target};
 use manager::in_place::{RoundChange, cancel_change, job_change, release_change, round_change};
-use manager::{JobInfoAnswer, Manager, info_of};
-use memory::{Admission, DeviceAnswer, JobType, LogicalAddress, Task, answer_number};
+use manager::{Manager, info_of};
+use memory::{Admission, DeviceAnswer, JobType, LogicalAddress, Refusal, Task, answer_number};
 use plan::records::Plan;
 use shown::devices_line;
-use state::{Area, Device};
+use state::{Area, Device, JobInfo};
 use texts::page::Page;
 use wear::add_worn;
 
@@ -99,17 +100,14 @@ pub fn print_answer(page: &mut Page, answer: Admission)
     page.number_line(answer_number(answer) as u64);
 }
 
-pub fn print_info(page: &mut Page, asked: JobInfoAnswer)
+pub fn print_info(page: &mut Page, asked: Result<JobInfo, Refusal>)
     requires { 338 ≤ room page.old }
-    ensures { Prints 338 page.old page.new (info_text (admission_number asked.answer) asked.info) }
+    ensures { Prints 338 page.old page.new (info_text (admission_number asked) (result_unwrap_or asked no_job_info)) }
 {
-    let number = answer_number(asked.answer);
-    if 0 < number {
-        page.number_line(number as u64);
-        return;
+    match asked {
+        Ok(info) => page.info_line(info.result, info.processed, info.waits),
+        Err(refusal) => page.number_line(refusal.number() as u64),
     }
-    let info = asked.info;
-    page.info_line(info.result, info.processed, info.waits);
 }
 
 pub fn print_round(

@@ -10,7 +10,7 @@ loop-i-init c = (refl, omega arith)
 pub loop-i-preserved : goal.loop-i-preserved
 loop-i-preserved c =
     let here = c.loop-i in (
-      rw (total_more, repeated_query, ← here.invariant.0) (ap (λ n. here.sum + (n + get_or c.args.manager.wear here.i 0)) c.processed-asked.ensures.processed_value),
+      rw (total_more, repeated_query, ← here.invariant.0) (ap (λ n. here.sum + (n + get_or c.args.manager.wear here.i 0)) (c.unwrap_or-processed.ensures ∙ c.processed.ensures.processed_value)),
       omega arith,
     )
 

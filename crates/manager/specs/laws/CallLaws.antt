@@ -5,10 +5,12 @@ use Rattle.rules.specs.Memory.{Memory}
 use Rattle.memory.specs.declared.DeviceAnswer.{DeviceAnswer}
 use Rattle.arith.specs.Cases.{by_bool}
 use Rattle.std.specs.Prelude.{ℕ, ◌≤◌, ◌<◌, Bool, false, true, List, ◌∷◌, ◌≡◌, eqb, length, replicate}
-use Rattle.std.proofs.Common.{sym, ap, ◌∙◌, arith, ltb-true, eq-eqb}
+use Rattle.std.proofs.Common.{sym, ap, ◌∙◌, arith, ltb-true, eq-eqb, ne_eqb}
 use Rattle.arith.specs.FirstNo.{first_no, none_elim}
 use Rattle.arith.specs.Parts.{upd_same}
-use Rattle.memory.specs.Numbers.{job_type_number, status_number}
+use Rattle.memory.specs.Numbers.{job_type_number, status_number, refusal_number}
+use Rattle.memory.specs.laws.NumberLaws.{refusal_some}
+use Rattle.memory.specs.declared.Refusal.{Refusal}
 use Rattle.memory.specs.declared.LogicalAddress.{LogicalAddress}
 use Rattle.memory.specs.declared.Task.{Task}
 use Rattle.devices.specs.laws.DeviceLaws.{lock_known}
@@ -96,23 +98,26 @@ module _ (m : Manager) (a : ℕ) where
     release_accepted d is e =
         rw (eq-eqb (release_number_of m a address n) 0 e, is) (ap (λ x. with_device (range_device m.plan a address n) x m) (sym (upd_same (core_of m).devices _ _)))
 
--- what a refused query gives
-module _ (m : Manager) (a : ℕ) (e : eqb (info_number_of m a) 0 ≡ false) where
+-- what a refused query would give: nothing
+refused_number : (q : Refusal) (n : ℕ) → refusal_number q ≡ n → eqb n 0 ≡ false
+refused_number q n e = ne_eqb n 0 (λ z. omega (arith, refusal_some q, e, z))
+
+module _ (m : Manager) (a : ℕ) (q : Refusal) (e : refusal_number q ≡ info_number_of m a) where
   pub status_refused : 0 ≡ status_of m a
   unfolding status_of
-  status_refused = rw e
+  status_refused = rw (refused_number q _ e)
 
   pub result_refused : record { 0 = 0 } ≡ result_of m a
   unfolding result_of
-  result_refused = rw e
+  result_refused = rw (refused_number q _ e)
 
   pub processed_refused : 0 ≡ processed_of m a
   unfolding processed_of
-  processed_refused = rw e
+  processed_refused = rw (refused_number q _ e)
 
   pub info_refused : no_job_info ≡ info_of m a
   unfolding info_of
-  info_refused = rw e
+  info_refused = rw (refused_number q _ e)
 
 -- what an accepted one gives, of the area's job j
 module _ (m : Manager) (a : ℕ) (e : info_number_of m a ≡ 0) where
@@ -139,17 +144,17 @@ unfolding info_of job_type_of job_info_of
 info_type m a i e = ap (λ (x : JobInfo). job_type_number x.task.kind) e ∙ by_bool (eqb (info_number_of m a) 0) (λ f. rw f) (λ f. rw f)
 
 module _ (m : Manager) (a : ℕ) (address : LogicalAddress) where
-  pub memory_refused : eqb (memory_info_number_of m a address) 0 ≡ false → no_memory_info ≡ memory_of_area m a address
+  pub memory_refused : (q : Refusal) → refusal_number q ≡ memory_info_number_of m a address → no_memory_info ≡ memory_of_area m a address
   unfolding memory_of_area
-  memory_refused e = rw e
+  memory_refused q e = rw (refused_number q _ e)
 
   pub memory_accepted : memory_info_number_of m a address ≡ 0 → memory_info_of m.plan a address ≡ memory_of_area m a address
   unfolding memory_of_area
   memory_accepted e = rw (eq-eqb (memory_info_number_of m a address) 0 e)
 
-  pub wear_refused : eqb (memory_info_number_of m a address) 0 ≡ false → no_wear_info ≡ wear_of_area m a address
+  pub wear_refused : (q : Refusal) → refusal_number q ≡ memory_info_number_of m a address → no_wear_info ≡ wear_of_area m a address
   unfolding wear_of_area
-  wear_refused e = rw e
+  wear_refused q e = rw (refused_number q _ e)
 
   pub wear_accepted : memory_info_number_of m a address ≡ 0 → wear_info_of m.plan (worn_at m.wear) a address ≡ wear_of_area m a address
   unfolding wear_of_area

@@ -3,4 +3,4 @@ use Rattle.manager.proofs.Manager.fresh.Goals as goal
 
 pub returns : goal.returns
 unfolding fresh_manager
-returns c = rw (c.fresh-areas.ensures, c.free-devices.ensures)
+returns c = rw (c.fresh.ensures, c.free.ensures)

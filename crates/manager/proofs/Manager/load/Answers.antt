@@ -1,7 +1,6 @@
 use mathlib.Core.Path.{refl, sym, ap, ◌∙◌}
 use borrow.Author.Tests.{eq-eqb}
 use lib.ListN.{replicate}
-use Rattle.memory.specs.Numbers.{refusal_number}
 use Rattle.changes.specs.laws.Changes.{refused_some}
 use Rattle.manager.specs.Load.{fresh_manager}
 use Rattle.manager.specs.laws.LoadLaws.{accepted_loaded, refused_loaded}

@@ -1,35 +1,17 @@
-use Rattle.changes.specs.laws.Changes.{refused_some}
-use Rattle.manager.specs.laws.CallLaws.{memory_number_lem, memory_few, memory_refused, memory_accepted}
-use Rattle.machine.specs.laws.SoundCases.{sound_few}
-use Rattle.memory.specs.Numbers.{admission_number}
-use mathlib.Core.Path.{sym, ap, ◌∙◌}
+use Rattle.std.proofs.Common.{sym, rules, ◌≡◌, Err, ◌∙◌}
+use Rattle.manager.specs.laws.CallLaws.{memory_few, memory_refused, memory_accepted}
 use Rattle.manager.proofs.Manager.memory_info.Goals as goal
 
-pub memory_admission-answer-requires : goal.memory_admission-answer-requires
-memory_admission-answer-requires c = λ e. sound_few _ _ _ (sym c.is_sound-sound.ensures ∙ e)
+pub returns-in_err-address_admission : goal.returns-in_err-address_admission
+returns-in_err-address_admission c =
+    let number = c.in_err-address_admission.ensures in
+    let is : c.from_residual.result ≡ Err c.in_err-address_admission.field-0.0 = search rules in
+    rw is (record { answer_value = number; info_value = memory_refused c.args.self c.args.area c.args.address _ number })
 
-pub memory_info-info-requires : goal.memory_info-info-requires
-memory_info-info-requires c =
-    let m = c.args.self in
-    let a = c.args.area in
-    let address = c.args.address in
-    let number = memory_number_lem m a _ c.is_sound-sound.ensures _ address c.memory_admission-answer.ensures in
-    let accepted = sym number ∙ ap admission_number c.in-Ok.is in
-    memory_few m a address accepted
+pub memory_info-requires : goal.memory_info-requires
+memory_info-requires c = memory_few c.args.self c.args.area c.args.address (sym c.in_ok-address_admission.ensures)
 
-pub returns-in-Err : goal.returns-in-Err
-returns-in-Err c =
-    let m = c.args.self in
-    let a = c.args.area in
-    let address = c.args.address in
-    let number = memory_number_lem m a _ c.is_sound-sound.ensures _ address c.memory_admission-answer.ensures in
-    record { answer_value = number; info_value = c.no_memory-info.ensures ∙ memory_refused m a address (refused_some _ _ c.in-Err.is _ number) }
-
-pub returns-in-Ok : goal.returns-in-Ok
-returns-in-Ok c =
-    let m = c.args.self in
-    let a = c.args.area in
-    let address = c.args.address in
-    let number = memory_number_lem m a _ c.is_sound-sound.ensures _ address c.memory_admission-answer.ensures in
-    let accepted = sym number ∙ ap admission_number c.in-Ok.is in
-    record { answer_value = number; info_value = c.memory_info-info.ensures ∙ memory_accepted m a address accepted }
+pub returns : goal.returns
+returns c =
+    let number = c.in_ok-address_admission.ensures in
+    record { answer_value = number; info_value = c.memory_info.ensures ∙ memory_accepted c.args.self c.args.area c.args.address (sym number) }

@@ -1,14 +1,17 @@
-use mathlib.Core.Path.{sym, ap, ◌∙◌}
-use Rattle.memory.specs.Numbers.{admission_number}
-use Rattle.changes.specs.laws.Changes.{refused_some}
+use Rattle.std.proofs.Common.{sym, rules, ◌≡◌, Err}
 use Rattle.manager.specs.laws.CallLaws.{info_few, processed_refused, processed_accepted}
 use Rattle.manager.proofs.Manager.processed.Goals as goal
 
-pub job_of-job-requires : goal.job_of-job-requires
-job_of-job-requires c = (info_few c.args.self c.args.area (sym c.query_admission-answer.ensures ∙ ap admission_number c.in-Ok.is)).1
+pub returns-in_err-query_admission : goal.returns-in_err-query_admission
+returns-in_err-query_admission c =
+    let number = c.in_err-query_admission.ensures in
+    let is : c.from_residual.result ≡ Err c.in_err-query_admission.field-0.0 = search rules in
+    rw is (record { answer_value = number; processed_value = processed_refused c.args.self c.args.area _ number })
 
-pub returns-in-Err : goal.returns-in-Err
-returns-in-Err c = record { answer_value = c.query_admission-answer.ensures; processed_value = processed_refused c.args.self c.args.area (refused_some _ _ c.in-Err.is _ c.query_admission-answer.ensures) }
+pub job_of-requires : goal.job_of-requires
+job_of-requires c = (info_few c.args.self c.args.area (sym c.in_ok-query_admission.ensures)).1
 
-pub returns-in-Ok : goal.returns-in-Ok
-returns-in-Ok c = record { answer_value = c.query_admission-answer.ensures; processed_value = processed_accepted c.args.self c.args.area (sym c.query_admission-answer.ensures ∙ ap admission_number c.in-Ok.is) _ c.job_of-job.ensures }
+pub returns : goal.returns
+returns c =
+    let accepted = sym c.in_ok-query_admission.ensures in
+    record { answer_value = c.in_ok-query_admission.ensures; processed_value = processed_accepted c.args.self c.args.area accepted _ c.job_of.ensures }

@@ -10,9 +10,9 @@ use Rattle.manager.specs.laws.CallLaws.{round_asked, round_refused, round_accept
 use Rattle.wear.specs.Wear.{add_worn}
 use Rattle.manager.proofs.in_place.round_change.Goals as goal
 
-pub run_round-next-requires : goal.run_round-next-requires
+pub run_round-requires : goal.run_round-requires
 unfolding round_number_of
-run_round-next-requires c =
+run_round-requires c =
     let a = c.args in
     let m = manager_of a.plan a.areas a.devices a.ages [] in
     let lent = memory_of a.image.now a.store.now in
@@ -37,4 +37,4 @@ returns-in-Ok c =
     let lent = memory_of a.image.now a.store.now in
     let x = c.round_admission-asked.ensures in
     let yes = sym x.answer_value ∙ ap admission_number c.in-Ok.is in
-    let r = c.run_round-next in record { answer_value = (λ wear. x.answer_value); manager_value = (λ wear. round_accepted (m wear) a.answers lent yes r.result.areas r.result.devices (add_worn r.result.worn 4 wear) r.ensures.areas_value r.ensures.devices_value (r.ensures.worn_value wear)); image_after = (λ wear. r.ensures.image_after ∙ ap (λ z. z.image) (round_memory_accepted (m wear) a.answers lent yes)); store_after = (λ wear. r.ensures.store_after ∙ ap (λ z. z.store) (round_memory_accepted (m wear) a.answers lent yes)) }
+    let r = c.run_round in record { answer_value = (λ wear. x.answer_value); manager_value = (λ wear. round_accepted (m wear) a.answers lent yes r.result.areas r.result.devices (add_worn r.result.worn 4 wear) r.ensures.areas_value r.ensures.devices_value (r.ensures.worn_value wear)); image_after = (λ wear. r.ensures.image_after ∙ ap (λ z. z.image) (round_memory_accepted (m wear) a.answers lent yes)); store_after = (λ wear. r.ensures.store_after ∙ ap (λ z. z.store) (round_memory_accepted (m wear) a.answers lent yes)) }
