@@ -16,6 +16,7 @@ use plan::records::Plan;
 use session::play_all;
 use state::{Area, Device, DeviceState, Job, SuspendedErase, Waits};
 
+// stays: `kind` and `status` are numbers, as the C interface has them (JobView in luvdrog_load).
 #[repr(C)]
 #[derive(Clone, Copy)]
 pub struct JobView {

@@ -1,5 +1,6 @@
 // The answers to the queries in C's layout. Each has its number, 0 or that of the first question answered "no"; where it
 // is refused, what was asked for is 0.
+// stays: `number`, `status` and `kind` are numbers, and each view a struct of its own, as the C interface has them.
 ghost use Rattle.std.specs.Prelude.{◌≡◌};
 ghost use Rattle.interface.specs.Queries.{status_view, result_view, processed_view, job_info_view, memory_info_view, wear_info_view, query_view};
 

@@ -55,6 +55,7 @@ pub trait Owner: Copy {
 }
 
 // The job type of a number that C hands over.
+// stays: `kind` and `answer` come here as numbers, since the contracts of the exported functions (crate timing) speak of `task_of` and `answers_of` of any number.
 #[tactic(auto, unfolding(crate::specs::Repeated::kind_of))]
 fn kind_of(kind: u8) -> JobType
     ensures value { result ≡ kind_of kind }

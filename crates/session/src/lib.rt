@@ -12,9 +12,9 @@ ghost use Rattle.session.specs.PlanText.{open_text, image_length_of, manager_in,
 pub mod fold;
 pub mod play;
 
-use memory::answer_number;
 use crate::fold::{Progress, play_lines};
 use manager::Manager;
+use memory::answer_number;
 use plan::checks::device_sum;
 use texts::page::Page;
 
