@@ -45,6 +45,7 @@ impl Change {
 }
 
 // What a call on an area goes by: question 9, and the area's entry with its place.
+// stays: the definition `asked_area` says number and area also where question 9 is answered "no", and an Err holds none.
 #[derive(Clone, Copy)]
 pub struct AskedArea {
     pub sound: bool,

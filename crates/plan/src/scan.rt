@@ -39,6 +39,7 @@ fn run_from(bytes: &[u8], from: usize, format: RecordFormat) -> Run
     let size = format.size;
     let mut count = 0;
     let mut end = from;
+    // stays: a run ends at the first place where no record stands, which no range and no iterator counts
     while is_record(bytes, end, format) {
         count += 1;
         end += size;
