@@ -27,6 +27,7 @@ pub struct RoundChange {
 }
 
 // One of the five jobs, or a lock request.
+#[inline(always)]
 pub fn job_change(
     plan: Plan,
     areas: [Area; 8],
@@ -47,6 +48,7 @@ pub fn job_change(
     }
 }
 
+#[inline(always)]
 pub fn cancel_change(
     plan: Plan,
     areas: [Area; 8],
@@ -66,6 +68,7 @@ pub fn cancel_change(
     }
 }
 
+#[inline(always)]
 pub fn release_change(
     plan: Plan,
     areas: [Area; 8],
