@@ -141,7 +141,7 @@ pub fn on_one_device(plan: Plan, area: usize, address: LogicalAddress, n: u32) -
     let task = lock_task(address, n);
     let first = segment_at(plan, area, task, 0);
     let mut x = first.length;
-    // stays: (d) each turn goes on by the length of the part that it found, which no range and no iterator counts: `while x < n`
+    // stays: each turn goes on by the length of the part that it found, which no range and no iterator counts: `while x < n`
     while x < n as u64 {
         let next = segment_at(plan, area, task, x as u32);
         if next.device != first.device {

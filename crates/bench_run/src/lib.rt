@@ -22,7 +22,7 @@ use std::rt::Files;
 use streams::write_all;
 
 // The next manager, how much of the input was used, and whether the answers could be written.
-// stays: manager and used are answered where a write failed too, so an Option or a Result would hold both in each of its arms (d).
+// stays: manager and used are answered where a write failed too, so an Option or a Result would hold both in each of its arms.
 #[derive(Clone, Copy)]
 struct Answered {
     manager: Manager,
@@ -75,7 +75,7 @@ fn answer_lines<W: Write>(
 }
 
 // The manager, the length of the begun line in front of the input, and whether there may be more input.
-// stays: manager and kept are answered of the last turn too, so an Option or a Result would hold both in each of its arms (d).
+// stays: manager and kept are answered of the last turn too, so an Option or a Result would hold both in each of its arms.
 #[derive(Clone, Copy)]
 struct Turn {
     manager: Manager,

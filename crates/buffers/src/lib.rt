@@ -32,9 +32,6 @@ pub fn keep(input: &mut [u8], from: usize, filled: usize) -> usize
     ensures input_after { input.new ≡ take result (drop from input.old) ++ drop result input.old }
 {
     let kept = (filled - from).min(4097);
-    // stays: slices have no `copy_within` here, and no part of one is read while another is lent to be written
-    for i in 0..kept {
-        input[i] = input[from + i];
-    }
+    input.copy_within(from..from + kept, 0);
     kept
 }

@@ -17,7 +17,7 @@ use plan::records::Plan;
 use state::{Area, Device};
 
 // What a call changes: one area, one device, and the ages. What it leaves is as it was.
-// stays: the clause manager_value of each call says what is written back also where the call is refused, and an Err holds none.
+// stays: the clauses manager_value of crate manager say what is written back also where a call is refused, and an Err holds none.
 #[derive(Clone, Copy)]
 pub struct Change {
     pub area_number: usize,

@@ -23,7 +23,7 @@ use texts::page::Page;
 
 // What is known of a job: the number that a fresh manager answers, its bounds, and of the jobs of the list what they add to its above and whether one locks a
 // device of its area.
-// stays: `number` is what the refused row prints, 0 of an admitted job (definition `facts_of`).
+// stays: `number` is what the refused row prints, 0 of an admitted job (definition `facts_of` of audits).
 #[derive(Clone, Copy, Default)]
 pub struct JobFacts {
     pub number: u8,

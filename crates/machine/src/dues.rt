@@ -26,7 +26,7 @@ fn locate_due(
     locate(sub_areas, start, area, job.task.address, job.processed)
 }
 
-// For a round's questions (`questions`). The records in use are lent to all lookups of the loop; `segment_from` would copy them for each.
+// For a round's questions (`questions`). The records in use are lent to all lookups of the loop.
 #[tactic(auto, using(crate::specs::laws::Dues::due_index, crate::specs::laws::Dues::due_inside, crate::specs::laws::Dues::due_front))]
 pub fn due_segments(
     sub_areas: [SubAreaRecord; 32],

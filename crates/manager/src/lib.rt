@@ -151,7 +151,7 @@ impl Manager {
         }
     }
 
-    // stays: the six calls over submit, since the papers name each and README's firmware section calls them by these names.
+    // stays: the six calls over submit, since document 01 names each of them.
     pub fn write(self, area: usize, address: LogicalAddress, length: u32) -> Answered
         ensures answer_value { admission_number result.answer ≡ job_number_of self area (record { kind = Write; address = address; length = length }) }
         ensures manager_value { result.manager ≡ after_job self area (record { kind = Write; address = address; length = length }) }

@@ -70,7 +70,7 @@ impl JobStatus {
 }
 
 // 000: MemAcc_JobResultType.
-// stays: a number, as a manager given by value may hold any (Manager::result, luvdrog_session_query): an enum would ask more of callers.
+// stays: a number, as a manager given by value may hold any (Manager::result): an enum would ask more of callers.
 #[repr(C)]
 #[derive(Clone, Copy, PartialEq, Eq, Default)]
 pub struct JobResult(pub u8);

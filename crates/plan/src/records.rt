@@ -263,7 +263,7 @@ fn read_endurance(bytes: &[u8], from: usize, count: usize) -> [u32; 32]
 }
 
 impl Plan {
-    // stays: that `Plan::default()` is the plan of all zeros was tried, and did not close.
+    // stays: that the check shows `Plan::default()` to be the plan of all zeros was tried; it does not.
     #[tactic(auto, unfolding(crate::specs::Records::empty_plan))]
     pub fn empty() -> Plan
         ensures { result ≡ empty_plan }

@@ -39,7 +39,7 @@ fn run_from(bytes: &[u8], from: usize, format: RecordFormat) -> Run
     let size = format.size;
     let mut count = 0;
     let mut end = from;
-    // stays: a run ends at the first place where no record stands, which no range and no iterator counts
+    // stays: `bytes[from..].chunks_exact(size).take_while(..).count()` would leave the end to be worked out from the count
     while is_record(bytes, end, format) {
         count += 1;
         end += size;

@@ -1,4 +1,4 @@
-// The lines of an input, played one after the other on a manager whose parts stay in one place: what a line changes is written back.
+// The lines of an input, played one after the other on a manager that stays in one place: what a line changes is written back.
 ghost use Rattle.std.specs.Prelude.{◌≡◌, ◌≤◌, length};
 ghost use Rattle.session.specs.Fold.{played_input};
 ghost use Rattle.session.specs.laws.FoldLaws.{session_of, is_line};

@@ -1,5 +1,5 @@
 // What the benchmarks link: the loops of crate `loops`, for C and Rust. They are exported from a crate of their own because a library proves its crate anew.
-// stays: `kind` and `answer` are numbers in every function here, the exported ones of the C interface; so do the functions alike but for the owner, which C calls by name.
+// stays: `kind` and `answer` are numbers, and functions that differ in the owner alone have names of their own, as C calls them.
 #![tactic(auto)]
 
 ghost use Rattle.std.specs.Prelude.{◌≡◌};

@@ -5,7 +5,7 @@ ghost use Rattle.std.specs.Prelude.{◌≡◌};
 ghost use Rattle.wear.specs.Wear.{sectors_in, worn_to, no_worn, add_worn, charge_of};
 
 // What a device's answer wears: so many sectors of a sub-area. Both fields are words, which are moved faster than bytes.
-// stays: the definitions `no_worn` and `add_worn` have the number 32 for no sub-area, and a round moves four of these as two words each.
+// stays: the definition `no_worn` has the number 32 for no sub-area, and a round moves four of these as two words each.
 #[derive(Clone, Copy)]
 pub struct Worn {
     pub sub_area: usize,

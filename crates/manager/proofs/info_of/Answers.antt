@@ -1,6 +1,6 @@
 use Rattle.std.proofs.Common.{sym, rules, ◌≡◌, Err, ◌∙◌, ℕ, List, []}
 use Rattle.manager.specs.Calls.{manager_of}
-use Rattle.manager.specs.laws.CallLaws.{info_number_lem, info_few, info_refused, info_accepted}
+use Rattle.manager.specs.laws.CallLaws.{info_number_lem, info_few, info_refused, refused_number, info_accepted}
 use Rattle.manager.proofs.info_of.Goals as goal
 
 pub returns-in_err-info_admission : goal.returns-in_err-info_admission
@@ -10,7 +10,7 @@ returns-in_err-info_admission c =
     let is : c.from_residual.result ≡ Err c.in_err-info_admission.field-0.0 = search rules in
     rw is (record {
       answer_value = number;
-      info_value = λ ages wear. info_refused (manager_of a.plan a.areas a.devices ages wear) a.area _ (number ages wear);
+      info_value = λ ages wear. info_refused (manager_of a.plan a.areas a.devices ages wear) a.area (refused_number _ _ (number ages wear));
     })
 
 pub job_info-requires : goal.job_info-requires

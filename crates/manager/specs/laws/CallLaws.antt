@@ -98,26 +98,27 @@ module _ (m : Manager) (a : ℕ) where
     release_accepted d is e =
         rw (eq-eqb (release_number_of m a address n) 0 e, is) (ap (λ x. with_device (range_device m.plan a address n) x m) (sym (upd_same (core_of m).devices _ _)))
 
--- what a refused query would give: nothing
-refused_number : (q : Refusal) (n : ℕ) → refusal_number q ≡ n → eqb n 0 ≡ false
+-- the number of a refusal is not 0
+pub refused_number : (q : Refusal) (n : ℕ) → refusal_number q ≡ n → eqb n 0 ≡ false
 refused_number q n e = ne_eqb n 0 (λ z. omega (arith, refusal_some q, e, z))
 
-module _ (m : Manager) (a : ℕ) (q : Refusal) (e : refusal_number q ≡ info_number_of m a) where
+-- what a refused query gives
+module _ (m : Manager) (a : ℕ) (e : eqb (info_number_of m a) 0 ≡ false) where
   pub status_refused : 0 ≡ status_of m a
   unfolding status_of
-  status_refused = rw (refused_number q _ e)
+  status_refused = rw e
 
   pub result_refused : record { 0 = 0 } ≡ result_of m a
   unfolding result_of
-  result_refused = rw (refused_number q _ e)
+  result_refused = rw e
 
   pub processed_refused : 0 ≡ processed_of m a
   unfolding processed_of
-  processed_refused = rw (refused_number q _ e)
+  processed_refused = rw e
 
   pub info_refused : no_job_info ≡ info_of m a
   unfolding info_of
-  info_refused = rw (refused_number q _ e)
+  info_refused = rw e
 
 -- what an accepted one gives, of the area's job j
 module _ (m : Manager) (a : ℕ) (e : info_number_of m a ≡ 0) where
@@ -144,17 +145,17 @@ unfolding info_of job_type_of job_info_of
 info_type m a i e = ap (λ (x : JobInfo). job_type_number x.task.kind) e ∙ by_bool (eqb (info_number_of m a) 0) (λ f. rw f) (λ f. rw f)
 
 module _ (m : Manager) (a : ℕ) (address : LogicalAddress) where
-  pub memory_refused : (q : Refusal) → refusal_number q ≡ memory_info_number_of m a address → no_memory_info ≡ memory_of_area m a address
+  pub memory_refused : eqb (memory_info_number_of m a address) 0 ≡ false → no_memory_info ≡ memory_of_area m a address
   unfolding memory_of_area
-  memory_refused q e = rw (refused_number q _ e)
+  memory_refused e = rw e
 
   pub memory_accepted : memory_info_number_of m a address ≡ 0 → memory_info_of m.plan a address ≡ memory_of_area m a address
   unfolding memory_of_area
   memory_accepted e = rw (eq-eqb (memory_info_number_of m a address) 0 e)
 
-  pub wear_refused : (q : Refusal) → refusal_number q ≡ memory_info_number_of m a address → no_wear_info ≡ wear_of_area m a address
+  pub wear_refused : eqb (memory_info_number_of m a address) 0 ≡ false → no_wear_info ≡ wear_of_area m a address
   unfolding wear_of_area
-  wear_refused q e = rw (refused_number q _ e)
+  wear_refused e = rw e
 
   pub wear_accepted : memory_info_number_of m a address ≡ 0 → wear_info_of m.plan (worn_at m.wear) a address ≡ wear_of_area m a address
   unfolding wear_of_area

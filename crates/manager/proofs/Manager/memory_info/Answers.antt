@@ -1,12 +1,12 @@
 use Rattle.std.proofs.Common.{sym, rules, ◌≡◌, Err, ◌∙◌}
-use Rattle.manager.specs.laws.CallLaws.{memory_few, memory_refused, memory_accepted}
+use Rattle.manager.specs.laws.CallLaws.{memory_few, memory_refused, refused_number, memory_accepted}
 use Rattle.manager.proofs.Manager.memory_info.Goals as goal
 
 pub returns-in_err-address_admission : goal.returns-in_err-address_admission
 returns-in_err-address_admission c =
     let number = c.in_err-address_admission.ensures in
     let is : c.from_residual.result ≡ Err c.in_err-address_admission.field-0.0 = search rules in
-    rw is (record { answer_value = number; info_value = memory_refused c.args.self c.args.area c.args.address _ number })
+    rw is (record { answer_value = number; info_value = memory_refused c.args.self c.args.area c.args.address (refused_number _ _ number) })
 
 pub memory_info-requires : goal.memory_info-requires
 memory_info-requires c = memory_few c.args.self c.args.area c.args.address (sym c.in_ok-address_admission.ensures)

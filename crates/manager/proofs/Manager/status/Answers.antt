@@ -1,12 +1,12 @@
 use Rattle.std.proofs.Common.{sym, rules, ◌≡◌, Err, ◌∙◌}
-use Rattle.manager.specs.laws.CallLaws.{info_few, status_refused, status_accepted}
+use Rattle.manager.specs.laws.CallLaws.{info_few, status_refused, refused_number, status_accepted}
 use Rattle.manager.proofs.Manager.status.Goals as goal
 
 pub returns-in_err-query_admission : goal.returns-in_err-query_admission
 returns-in_err-query_admission c =
     let number = c.in_err-query_admission.ensures in
     let is : c.from_residual.result ≡ Err c.in_err-query_admission.field-0.0 = search rules in
-    rw is (record { answer_value = number; status_value = status_refused c.args.self c.args.area _ number })
+    rw is (record { answer_value = number; status_value = status_refused c.args.self c.args.area (refused_number _ _ number) })
 
 pub job_of-requires : goal.job_of-requires
 job_of-requires c = (info_few c.args.self c.args.area (sym c.in_ok-query_admission.ensures)).1
