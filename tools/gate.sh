@@ -3,7 +3,7 @@
 # rt ci's, 'N passed, 0 failed', and stands there only where all else passed too.
 set -eu
 cd "$(dirname "$0")/.."
-sh tools/need.sh rt cargo
+sh tools/need.sh rt cargo nm
 # shellcheck source=tools/made.sh
 . tools/made.sh
 # shellcheck source=tools/over-libraries.sh
@@ -69,6 +69,18 @@ archives() {
         }
     done
     for name in bench audit interface timing; do note_made "$name" "$sum"; done
+    for name in interface timing; do needs_only "crates/$name/out/lib$name.a" memcpy memset || return 1; done
+}
+
+# A control unit may have no C library: an archive needs these names from outside, and no other.
+needs_only() { # ARCHIVE NAME...
+    archive=$1
+    shift
+    needed=$(nm -u "$archive" | awk '$1 == "U" { print $2 }' | sort -u | xargs)
+    if [ "$needed" != "$*" ]; then
+        echo "$archive needs $needed from outside, and may need $*"
+        return 1
+    fi
 }
 
 comparisons() {

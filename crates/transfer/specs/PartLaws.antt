@@ -1,6 +1,6 @@
 -- The turns of the loops over bytes, and what a lent part is.
 use Rattle.std.specs.Prelude.{ℕ, ◌+◌, ◌-◌, ◌≤◌, ◌<◌, min, Bool, true, false, ◌≡◌, refl, List, [], ◌∷◌, ◌++◌, eqb, length, take, drop, get_or, set}
-use Rattle.std.proofs.Common.{true≢false, sym, ap, ◌∙◌, append-nil, arith, add-one, zero-add, add-zero, drop_of_length-le, take-suc-set, drop-set-lt, drop-drop, get_or-drop, ext_get_or, eq-eqb, eqb-true}
+use Rattle.std.proofs.Common.{true≢false, sym, ap, ◌∙◌, append-nil, arith, add-one, zero-add, add-zero, drop_of_length-le, take-suc, take-suc-set, drop-set-lt, drop-drop, get_or-drop, ext_get_or, eq-eqb, eqb-true}
 use Rattle.std.proofs.Math.Nat.{add-sub_cancel_left}
 use Rattle.std.specs.Int.Bits.{bit_and}
 use Rattle.std.specs.Bool.{Decides}
@@ -11,6 +11,9 @@ use Rattle.arith.specs.Cases.{by_bool}
 use Rattle.arith.specs.Bounded.{every, every_elim, every_intro, every_same}
 use Rattle.arith.specs.Listed.{listed, listed_append, listed_same}
 use Rattle.arith.specs.Parts.{part, put, part_at, length_part}
+
+pub copy_turn : (d s : List ℕ) (i : ℕ) → i < length d → i < length s → take i d ≡ take i s → take (i + 1) (set d i (get_or s i 0)) ≡ take (i + 1) s
+copy_turn d s i h k e = rw (add-one, take-suc-set d i (get_or s i 0) h, take-suc s i 0 k, e)
 
 -- slices of one length that `==` compares
 pub same_bytes : (xs ys : List ℕ) (r : Bool) → length xs ≡ length ys → r ≡ pointwise eqb xs ys → r ≡ every (λ i. eqb (get_or xs i 0) (get_or ys i 0)) (length xs)

@@ -8,6 +8,16 @@ ghost use Rattle.arith.specs.Listed.{listed};
 ghost use Rattle.arith.specs.Parts.{part, put};
 ghost use Rattle.transfer.specs.PartLaws.{anded};
 
+// stays: `copy_from_slice` is a call of memmove, a name that the archives for C would need from outside.
+fn copy_all(dst: &mut [u8], src: &[u8])
+    requires { length src.now ≡ length dst.old }
+    ensures { dst.new ≡ src.now }
+{
+    for i in 0..src.len() {
+        dst[i] = src[i];
+    }
+}
+
 // Each byte of dst becomes the bits that it has in common with that of src, as far as both go.
 // stays: of a slice written through `iter_mut().zip(..)` the proof of `anded` knows no byte, so that the index is written here.
 fn and_all(dst: &mut [u8], src: &[u8])
@@ -32,7 +42,7 @@ pub fn write_part(dst: &mut [u8], p: usize, src: &[u8])
     requires { p + length src.now ≤ length dst.old }
     ensures { dst.new ≡ put p src.now dst.old }
 {
-    dst[p..p + src.len()].copy_from_slice(src);
+    copy_all(&mut dst[p..p + src.len()], src);
 }
 
 // All of src is and-ed into dst at p.

@@ -6,4 +6,4 @@ use Rattle.transfer.proofs.write_part.Goals as goal
 pub returns : goal.returns
 returns c =
     let a = c.args in
-    rw c.copy_from_slice.ensures.after (put_is a.p (length a.src.now) a.src.now a.dst.now refl)
+    rw c.copy_all.ensures (put_is a.p (length a.src.now) a.src.now a.dst.now refl)
