@@ -25,7 +25,7 @@ fn offset_of(found: Option<FoundByte>) -> u64
 
 // Where the last byte of a range lies: nowhere if the range has no byte, or begins before the area.
 fn last_byte(
-    sub_areas: [SubAreaRecord; 32],
+    sub_areas: &[SubAreaRecord; 32],
     count: usize,
     start: LogicalAddress,
     area: usize,
@@ -33,7 +33,7 @@ fn last_byte(
     n: u32,
 ) -> Option<FoundByte>
     requires { count ≤ 32 }
-    ensures { result ≡ last_byte sub_areas count start.0 area address.0 n }
+    ensures { result ≡ last_byte sub_areas.now count start.0 area address.0 n }
 {
     if n < 1 || address.0 < start.0 {
         return None;
@@ -48,7 +48,7 @@ pub fn is_inside(plan: Plan, area: usize, address: LogicalAddress, n: u32) -> bo
     ensures { result ≡ is_inside plan area address n }
 {
     last_byte(
-        plan.sub_areas,
+        &plan.sub_areas,
         plan.sub_area_count,
         plan.areas[area].start,
         area,
@@ -162,7 +162,14 @@ pub fn range_admission(plan: Plan, area: usize, task: Task) -> Result<u8, Refusa
     let start = record.start;
     let address = task.address;
     let n = task.length;
-    let last = last_byte(plan.sub_areas, plan.sub_area_count, start, area, address, n);
+    let last = last_byte(
+        &plan.sub_areas,
+        plan.sub_area_count,
+        start,
+        area,
+        address,
+        n,
+    );
     if last.is_none() {
         return Err(Refusal::Range);
     }

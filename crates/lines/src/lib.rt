@@ -264,16 +264,16 @@ fn info_line(fields: &mut Fields) -> Option<Line>
     Some(Line::Info(only_number(fields)?))
 }
 
-// The line of a type's number, its other fields still to be read.
-fn line_of_type(kind: u32, fields: &mut Fields, devices: usize) -> Option<Line>
-    ensures { result ≡ line_of_type devices (Some kind) fields.old }
+// The line of a type's number, its other fields still to be read. By value: lent fields would stand in memory before the number is read.
+fn line_of_type(kind: u32, mut fields: Fields, devices: usize) -> Option<Line>
+    ensures { result ≡ line_of_type devices (Some kind) fields.entry }
 {
     match kind {
-        0 => round_line(fields, devices),
-        8 => release_line(fields),
-        9 => cancel_line(fields),
-        10 => info_line(fields),
-        _ => job_line(kind_of(kind), fields),
+        0 => round_line(&mut fields, devices),
+        8 => release_line(&mut fields),
+        9 => cancel_line(&mut fields),
+        10 => info_line(&mut fields),
+        _ => job_line(kind_of(kind), &mut fields),
     }
 }
 
@@ -288,5 +288,5 @@ pub fn line_of(line: &[u8], devices: usize) -> Option<Line>
     }
     let mut fields = Fields { line, at: 0 };
     let kind = fields.number()?;
-    line_of_type(kind, &mut fields, devices)
+    line_of_type(kind, fields, devices)
 }

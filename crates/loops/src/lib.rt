@@ -145,8 +145,9 @@ pub fn infos(plan: &[u8], kind: u8, length: u32, times: u32) -> u64
     let manager = busy(plan, kind, length);
     let mut sum: u64 = 0;
     for i in 0..times {
-        let info = manager.job_info((i % 8) as usize).unwrap_or_default();
-        sum += info.task.length as u64;
+        let asked = manager.job_info((i % 8) as usize);
+        let length = asked.map_or(0, |info| info.task.length);
+        sum += length as u64;
     }
     sum
 }

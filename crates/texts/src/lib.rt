@@ -55,7 +55,9 @@ impl<'a> Page<'a> {
         requires { 2 ≤ room self.old }
         ensures { Prints 2 self.old self.new question_line }
     {
-        self.push_all(b"?\n");
+        // byte by byte: a copy of two takes longer
+        self.push(b'?');
+        self.push(b'\n');
     }
 
     #[tactic(auto, unfolding(crate::specs::Texts::behind))]

@@ -11,8 +11,9 @@ loop-i-init c = (refl, omega arith)
 pub loop-i-preserved : goal.loop-i-preserved
 loop-i-preserved c =
     let here = c.loop-i in
-    let is : c.unwrap_or_default-info.result ≡ result_unwrap_or c.job_info.result no_job_info = search rules in (
-      rw (total_more, repeated_query, ← here.invariant.0) (ap (λ info. here.sum + info.task.length) (is ∙ c.job_info.ensures.info_value)),
+    let asked = c.job_info-asked.ensures in
+    let is : c.map_or-length.result ≡ (result_unwrap_or c.job_info-asked.result no_job_info).task.length = search rules in (
+      rw (total_more, repeated_query, ← here.invariant.0) (ap (λ n. here.sum + n) (is ∙ ap (λ info. info.task.length) asked.info_value)),
       omega arith,
     )
 
