@@ -115,11 +115,16 @@ fn end_input<W: Write>(
     image: &mut [u8],
     store: &mut [u8],
     out: &mut [u8],
-) -> Manager
-    ensures store_after { 338 ≤ length out.old → lines_of false line.now ≡ [] → bench_of result image.new store.new ≡ after_lines (lines_of true line.now) (bench_of manager image.old store.old) }
+) -> Turn
+    ensures store_after { 338 ≤ length out.old → lines_of false line.now ≡ [] → bench_of result.manager image.new store.new ≡ after_lines (lines_of true line.now) (bench_of manager image.old store.old) }
     ensures written { Wrote (W.contents writer.old) (W.contents writer.new) (text_of_lines (lines_of true line.now) (bench_of manager image.old store.old)) ⊥ }
+    ensures kept_value { (result.kept ≡ 0) × (result.is_open ≡ false) }
 {
-    answer_lines(writer, manager, line, true, image, store, out).manager
+    Turn {
+        manager: answer_lines(writer, manager, line, true, image, store, out).manager,
+        kept: 0,
+        is_open: false,
+    }
 }
 
 // Reads once, and takes what came, or the end. The reader decides which bytes these are: some piece of what it had left, where it says what that is, and of a reader that does not say it,
@@ -141,11 +146,7 @@ fn take_turn<R: Read, W: Write>(
     // a read that fails is the end too
     let n = streams::read_some(reader, &mut input[kept..]).unwrap_or(0);
     if n == 0 {
-        return Turn {
-            manager: end_input(writer, manager, &input[..kept], image, store, out),
-            kept: 0,
-            is_open: false,
-        };
+        return end_input(writer, manager, &input[..kept], image, store, out);
     }
     take_input(writer, manager, &mut input[..kept + n], image, store, out)
 }
@@ -207,6 +208,15 @@ fn play_session<R: Read, W: Write>(reader: &mut R, writer: &mut W, plan: &[u8]) 
     }
 }
 
+// "a plan above that sum, over 4,096 bytes or unreadable prints only '?'": whether it could be written is not asked.
+fn unreadable<W: Write>(writer: &mut W) -> usize
+    ensures result_value { result ≡ 0 }
+    ensures written { Wrote (W.contents writer.old) (W.contents writer.new) question_line ⊥ }
+{
+    let _ = write_all(writer, &question_text());
+    0
+}
+
 // Runs the session, and answers how many bytes of a begun line were not taken. What plan.bin holds, what the input is and what can be written is decided outside: it is the
 // session over some plan, one over 4,096 bytes where it cannot be read, and over some bytes that came, of whose text a front is written.
 pub fn run<F: Files, R: Read, W: Write>(files: &F, reader: &mut R, writer: &mut W) -> usize
@@ -217,10 +227,6 @@ pub fn run<F: Files, R: Read, W: Write>(files: &F, reader: &mut R, writer: &mut 
     let mut plan = [0u8; 4097];
     match streams::read_file(files, "plan.bin", &mut plan) {
         Ok(n) => play_session(reader, writer, &plan[..n]),
-        Err(_) => {
-            // "a plan above that sum, over 4,096 bytes or unreadable prints only '?'": whether it could be written is not asked
-            let _ = write_all(writer, &question_text());
-            0
-        }
+        Err(_) => unreadable(writer),
     }
 }

@@ -11,4 +11,5 @@ returns g c =
     record {
       store_after = λ h none. last_played a.line.now (bench_of a.manager a.image.now a.store.now) _ _ q.played_to none (q.input_value h);
       written = lines_written true _ _ _ _ _ _ _ refl q.played_to q.written (λ (v : ⊥). absurd v);
+      kept_value = (refl, refl);
     }

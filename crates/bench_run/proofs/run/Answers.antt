@@ -4,4 +4,4 @@ use Rattle.bench_run.proofs.SessionTexts.{unread, session_unread}
 use Rattle.bench_run.proofs.run.Goals as goal
 
 pub returns-in-Err-clause-session : goal.returns-in-Err-clause-session
-returns-in-Err-clause-session g c = (unread, [], Consumes-nil _, session_unread [] _ _ (rw c.question_text.ensures at c.write_all.ensures.wrote))
+returns-in-Err-clause-session g c = (unread, [], Consumes-nil _, session_unread [] _ _ c.unreadable.ensures.written)

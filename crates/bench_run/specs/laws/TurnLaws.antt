@@ -1,6 +1,6 @@
 -- The turns of `answer_lines`, what `take_input` keeps, and the first image.
 use Rattle.std.specs.Prelude.{ℕ, zero, suc, ◌+◌, ◌-◌, ◌≤◌, ◌<◌, min, Bool, false, List, [], ◌∷◌, ◌++◌, ◌≡◌, refl, length, take, drop, replicate}
-use Rattle.std.proofs.Common.{sym, ap, subst, ◌∙◌, arith, length-drop, drop_of_length-le, take_all}
+use Rattle.std.proofs.Common.{sym, ap, subst, ◌∙◌, arith, length-take, length-drop, drop_of_length-le, take_all}
 use Rattle.manager.specs.declared.Manager.{Manager}
 use Rattle.session.specs.AllLines.{BenchState, state_of, bench_of, lines_of, PlayedTo}
 use Rattle.session.specs.laws.AllLinesLaws.{no_lines, played_on_lem, all_played, begun_left}
@@ -41,17 +41,33 @@ module _ (ends : Bool) (input : List ℕ) (at : ℕ) where
   pub none_at_all : at ≡ 0 → lines_of ends (drop at input) ≡ [] → lines_of ends input ≡ []
   none_at_all z h = ap (λ k. lines_of ends (drop k input)) (sym z) ∙ h
 
--- `take_input`: u bytes of the input were used; r bytes are kept
+-- `take_input`: x is the filled part of the input, of which u bytes were used; r bytes are kept
+module _ (input after x : List ℕ) (filled u r : ℕ) (b c : BenchState) (part : x ≡ take filled input) (fits : filled ≤ length input) (p : PlayedTo false x b c u)
+    (e : r ≡ min 4097 (filled - u)) (kept : after ≡ take r (drop u input) ++ drop r input) where
+  pub few_used : u ≤ filled
+  few_used = omega (arith, p.few, ap length part, length-take filled input)
+
+  pub taken_input : TakenInput (take filled input) b c (take r after)
+  taken_input = (u, subst (λ y. PlayedTo false y b c u) part p, kept_front after input u r filled few_used fits e kept)
+
+  pub taken_whole : lines_of false (drop u x) ≡ [] → TakenWhole (take filled input) b c (take r after)
+  taken_whole none =
+      let y = take filled input in
+      let q = subst (λ z. PlayedTo false z b c u) part p in
+      let left : lines_of false (drop u y) ≡ [] = ap (λ z. lines_of false (drop u z)) (sym part) ∙ none in
+      (all_played false y b c u q left, kept_front after input u r filled few_used fits e kept ∙ ap (take 4097) (sym (begun_left y b c u q left)))
+
+-- and where all of the input is filled
 module _ (input after : List ℕ) (u r : ℕ) (b c : BenchState) (p : PlayedTo false input b c u)
     (e : r ≡ min 4097 (length input - u)) (kept : after ≡ take r (drop u input) ++ drop r input) where
-  front_kept : take r after ≡ take 4097 (drop u input)
-  front_kept = kept_front after input u r (length input) p.few (omega arith) e kept ∙ ap (λ l. take 4097 (drop u l)) (take_all (length input) input (omega arith))
+  filled_all : take (length input) input ≡ input
+  filled_all = take_all (length input) input (omega arith)
 
-  pub taken_input : TakenInput input b c (take r after)
-  taken_input = (u, p, front_kept)
+  pub taken_all : TakenInput input b c (take r after)
+  taken_all = subst (λ x. TakenInput x b c (take r after)) filled_all (taken_input input after input (length input) u r b c (sym filled_all) (omega arith) p e kept)
 
-  pub taken_whole : lines_of false (drop u input) ≡ [] → TakenWhole input b c (take r after)
-  taken_whole none = (all_played false input b c u p none, front_kept ∙ ap (take 4097) (sym (begun_left input b c u p none)))
+  pub taken_all_whole : lines_of false (drop u input) ≡ [] → TakenWhole input b c (take r after)
+  taken_all_whole none = subst (λ x. TakenWhole x b c (take r after)) filled_all (taken_whole input after input (length input) u r b c (sym filled_all) (omega arith) p e kept none)
 
 -- a part of a list of one value
 alike : (n k b : ℕ) → take n (replicate k b) ≡ replicate (length (take n (replicate k b))) b
