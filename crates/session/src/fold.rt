@@ -17,14 +17,15 @@ pub struct Progress {
 }
 
 // What stands from `at` to `to` is a line where a line end follows; behind the last line end only where the input ends there, and if it has a byte.
-// stays: as one expression it is worked out without a branch, which takes six instructions for two in each line.
+// By cases, of which the compiler makes branches: one expression is worked out whole for each line, in ten instructions.
 fn is_line(at: usize, to: usize, length: usize, ends: bool) -> bool
     ensures { result ≡ is_line ends at to length }
 {
-    if to < length {
-        return true;
+    match (to < length, ends) {
+        (true, _) => true,
+        (false, false) => false,
+        (false, true) => at < to,
     }
-    ends && at < to
 }
 
 // The lines of the input, as long as the longest answer has room; what stands behind the last line end is a line only
