@@ -17,7 +17,7 @@ pub struct Progress {
 }
 
 // What stands from `at` to `to` is a line where a line end follows; behind the last line end only where the input ends there, and if it has a byte.
-// By cases, of which the compiler makes branches: one expression is worked out whole for each line, in ten instructions.
+// By cases, of which the bench program gets branches: there one expression was worked out whole for each line, in ten instructions.
 fn is_line(at: usize, to: usize, length: usize, ends: bool) -> bool
     ensures { result ≡ is_line ends at to length }
 {
