@@ -6,6 +6,7 @@ for tool in "$@"; do
     case $tool in
     rt) where="It is the Rattle toolchain's command: put its folder bin on the PATH." ;;
     cargo) where="It builds the model and its tests, and comes with Rust. 'make run' does without it." ;;
+    nm) where="It comes with the linker that cargo needs." ;;
     *) where="" ;;
     esac
     echo "$tool is not found. $where" >&2
